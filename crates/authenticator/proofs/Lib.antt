@@ -1,0 +1,4 @@
+pub mod Answered
+pub mod Feeds
+pub mod Padding
+pub mod Views

@@ -1,0 +1,11 @@
+//! What an authenticator is, and the feeder that makes one of any block algorithm.
+
+mod feeder;
+mod meaning;
+mod tags;
+
+pub use feeder::BlockCore;
+pub use feeder::Feeder;
+pub use meaning::Authenticator;
+pub use meaning::TAG_BUFFER;
+pub use tags::tag_into;

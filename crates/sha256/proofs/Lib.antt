@@ -1,0 +1,4 @@
+pub mod Bitwise
+pub mod Blocks
+pub mod Ends
+pub mod Turns
