@@ -1,1 +1,2 @@
 mod Hexed
+mod Joined

@@ -1,2 +1,4 @@
 pub mod Hex
 pub mod Key
+pub mod Token
+pub mod Report
