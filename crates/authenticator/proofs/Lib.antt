@@ -1,4 +1,5 @@
 pub mod Answered
+pub mod Equal
 pub mod Feeds
 pub mod Padding
 pub mod Views

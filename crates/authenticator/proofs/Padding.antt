@@ -5,7 +5,7 @@ use mathlib.Core.Logic.{⊎-elim}
 use Prim.Native.Nat.{ℕ, _-_, _<_, _≤_, min}
 use native.Mathlib.Omega.{arith}
 use lib.ListN.{length, take, replicate}
-use Rattle.std.proofs.shelf.Lists.{append-nil, take-all}
+use Rattle.std.proofs.shelf.Lists.{append-nil, take-all, take-append-le}
 use Rattle.std.proofs.shelf.Tests.{cases-lt}
 use Rattle.authenticator.specs.Meaning.{padded}
 
@@ -20,3 +20,7 @@ take-min n used block e =
     (λ lt. let m : min used n ≡ used = omega arith in ap (λ k. take k block) m)
     (λ le. let m : min used n ≡ n = omega arith in ap (λ k. take k block) m ∙ take-all n block (omega arith) ∙ sym (take-all used block (omega arith)))
     (cases-lt used n)
+
+-- the tag is the front of the buffer
+pub front-padded : (t : List ℕ) (n : ℕ) → length t ≡ n → take n (padded t) ≡ t
+front-padded t n e = take-append-le n t (replicate (32 - length t) 0) (omega arith) ∙ take-all n t (omega arith)

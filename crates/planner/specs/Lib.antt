@@ -1,1 +1,2 @@
+pub mod Confirmation
 pub mod Token

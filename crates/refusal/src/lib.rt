@@ -11,6 +11,10 @@ pub enum Refusal {
     WrongLength = 2,
     /// The bytes are no image: fewer than 2, a length field below 46, or one unlike their number.
     BadImage = 3,
+    /// A token or a confirmation has not the length of the authenticator's tags.
+    TagLength = 5,
+    /// The confirmation is not the tag.
+    WrongConfirmation = 12,
 }
 
 impl Refusal {
@@ -27,6 +31,8 @@ pub impl fmt::Display for Refusal as RefusalDisplay {
         f.write_str(match self {
             Refusal::WrongLength => "a key or a buffer has a wrong length",
             Refusal::BadImage => "the bytes are not an image",
+            Refusal::TagLength => "it has not the length of a tag",
+            Refusal::WrongConfirmation => "the confirmation is not the tag",
         })
     }
 }
