@@ -28,16 +28,17 @@ found-more a b i differ la lb found =
     let x = getD a i 0 in
     let y = getD b i 0 in
     let ma : take (i + 1) a ≡ take i a ++ (x ∷ []) = take-more a i 0 la in
-    let mb : take (i + 1) b ≡ take i b ++ (y ∷ []) = take-more b i 0 lb in
-    (λ e.
-      let front : take i a ≡ take i b = found .0 (or-left differ (bitXor x y) e) in
-      let byte : x ≡ y = xor-same x y (or-right differ (bitXor x y) e) in
-      cc,
-     λ e.
-      let front : take i a ≡ take i b = sym (take-take i (i + 1) a (omega arith)) ∙ ap (take i) e ∙ take-take i (i + 1) b (omega arith) in
-      let byte : x ≡ y = sym (getD-take (i + 1) a i 0 (omega arith)) ∙ ap (λ l. getD l i 0) e ∙ getD-take (i + 1) b i 0 (omega arith) in
-      let none : bitXor x y ≡ 0 = ap (λ q. bitXor x q) (sym byte) ∙ xor-self x in
-      ap (λ q. bitOr q (bitXor x y)) (found .1 front) ∙ or-zero-l (bitXor x y) ∙ none)
+    let mb : take (i + 1) b ≡ take i b ++ (y ∷ []) = take-more b i 0 lb in (
+      λ e.
+          let front : take i a ≡ take i b = found .0 (or-left differ (bitXor x y) e) in
+          let byte : x ≡ y = xor-same x y (or-right differ (bitXor x y) e) in
+          cc,
+      λ e.
+          let front : take i a ≡ take i b = sym (take-take i (i + 1) a (omega arith)) ∙ ap (take i) e ∙ take-take i (i + 1) b (omega arith) in
+          let byte : x ≡ y = sym (getD-take (i + 1) a i 0 (omega arith)) ∙ ap (λ l. getD l i 0) e ∙ getD-take (i + 1) b i 0 (omega arith) in
+          let none : bitXor x y ≡ 0 = ap (λ q. bitXor x q) (sym byte) ∙ xor-self x in
+          ap (λ q. bitOr q (bitXor x y)) (found .1 front) ∙ or-zero-l (bitXor x y) ∙ none,
+    )
 
 -- all of them
 pub found-all : (a b : List ℕ) (i differ : ℕ) → length a ≤ i → length b ≤ i → Found a b i differ

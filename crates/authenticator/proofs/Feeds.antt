@@ -29,8 +29,8 @@ module _ {V : Type 0} (w : ℕ) (step : V → List ℕ → V) where
   byte-roomed h b some =
       ⊎-elim
       (λ e.
-        let full : roomed w step h ≡ record { value = step (h .value) (h .waiting); waiting = [] } = roomed-full h e in
-        ap (λ r. byte w step r b) full ∙ byte-free (step (h .value) (h .waiting)) [] b (λ z. omega arith) ∙ sym (byte-full (h .value) (h .waiting) b e))
+      let full : roomed w step h ≡ record { value = step (h .value) (h .waiting); waiting = [] } = roomed-full h e in
+      ap (λ r. byte w step r b) full ∙ byte-free (step (h .value) (h .waiting)) [] b (λ z. omega arith) ∙ sym (byte-full (h .value) (h .waiting) b e))
       (λ ne. ap (λ r. byte w step r b) (roomed-free h ne))
       (cases-eq (length (h .waiting)) w)
 

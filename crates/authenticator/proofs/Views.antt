@@ -50,12 +50,12 @@ module _ {V : Type 0} (w : ℕ) (step : V → List ℕ → V) (some : 0 < w) whe
   bytes-seen v ws (b ∷ xs) le =
       ⊎-elim
       (λ e.
-        ap (λ h. bytes w step h xs) (byte-full w step v ws b e)
-        ∙ bytes-seen (step v ws) (b ∷ []) xs (omega arith)
-        ∙ sym (seen-block v ws b xs e))
+      ap (λ h. bytes w step h xs) (byte-full w step v ws b e)
+      ∙ bytes-seen (step v ws) (b ∷ []) xs (omega arith)
+      ∙ sym (seen-block v ws b xs e))
       (λ ne.
-        let long : length (ws ++ (b ∷ [])) ≡ length ws + 1 = length-append ws (b ∷ []) in
-        ap (λ h. bytes w step h xs) (byte-free w step v ws b ne)
-        ∙ bytes-seen v (ws ++ (b ∷ [])) xs (omega arith)
-        ∙ ap (seen v) (append-assoc ws (b ∷ []) xs))
+      let long : length (ws ++ (b ∷ [])) ≡ length ws + 1 = length-append ws (b ∷ []) in
+      ap (λ h. bytes w step h xs) (byte-free w step v ws b ne)
+      ∙ bytes-seen v (ws ++ (b ∷ [])) xs (omega arith)
+      ∙ ap (seen v) (append-assoc ws (b ∷ []) xs))
       (cases-eq (length ws) w)

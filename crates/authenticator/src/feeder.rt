@@ -58,7 +58,11 @@ impl<C: BlockCore<W>, const W: usize> Feeder<C, W> {
     {
         let mut core = core;
         core.start();
-        Feeder { core, block: [0; W], used: 0 }
+        Feeder {
+            core,
+            block: [0; W],
+            used: 0,
+        }
     }
 
     /// Goes to the beginning, whatever was fed before.

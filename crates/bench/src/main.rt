@@ -2,6 +2,8 @@
 //! is the same in every run.
 
 use authenticator::Authenticator;
+use cmac::Cmac;
+use cmac::CmacAuthenticator;
 use commands::push_hex;
 use hmac::Hmac;
 use hmac::HmacAuthenticator;
@@ -9,6 +11,7 @@ use std::error::AnyError;
 use std::time::Instant;
 
 const PART: usize = 50_000;
+
 const RUNS: u32 = 200;
 
 fn main(rt: LibcRuntime) -> Result<(), AnyError> {
@@ -16,14 +19,23 @@ fn main(rt: LibcRuntime) -> Result<(), AnyError> {
     for i in 0..PART {
         part.push((i % 251) as u8)?;
     }
-    let Ok(mut authenticator) = Hmac::new(&[0x5a; 32], &mut [0; 64]) else {
+    let Ok(mut hmac) = Hmac::new(&[0x5a; 32], &mut [0; 64]) else {
         return Err("the key was refused".into());
     };
-    measure(&rt, "HMAC-SHA-256", &mut authenticator, part.as_slice())
+    measure(&rt, "HMAC-SHA-256", &mut hmac, part.as_slice())?;
+    let Ok(mut cmac) = Cmac::new(&[0x5a; 16]) else {
+        return Err("the key was refused".into());
+    };
+    measure(&rt, "AES-CMAC", &mut cmac, part.as_slice())
 }
 
 // The best of several runs.
-fn measure<K: Authenticator>(rt: &LibcRuntime, name: &str, authenticator: &mut K, part: &[u8]) -> Result<(), AnyError> {
+fn measure<K: Authenticator>(
+    rt: &LibcRuntime,
+    name: &str,
+    authenticator: &mut K,
+    part: &[u8],
+) -> Result<(), AnyError> {
     let (mut best, tag) = once(rt, authenticator, part)?;
     for _ in 0..RUNS {
         let (nanos, _) = once(rt, authenticator, part)?;
@@ -37,7 +49,11 @@ fn measure<K: Authenticator>(rt: &LibcRuntime, name: &str, authenticator: &mut K
     Ok(())
 }
 
-fn once<K: Authenticator>(rt: &LibcRuntime, authenticator: &mut K, part: &[u8]) -> Result<(u128, [u8; 32]), AnyError> {
+fn once<K: Authenticator>(
+    rt: &LibcRuntime,
+    authenticator: &mut K,
+    part: &[u8],
+) -> Result<(u128, [u8; 32]), AnyError> {
     let mut out = [0; 32];
     let start = Instant::now(rt)?;
     authenticator.open();

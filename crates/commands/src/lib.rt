@@ -2,19 +2,22 @@
 
 mod hex;
 mod key;
+mod kinds;
 mod outcome;
 mod reports;
 mod runs;
-mod tokens;
+mod tags;
 
 pub use hex::from_hex;
 pub use hex::push_hex;
 pub use key::KeyFault;
 pub use key::read_key;
+pub use kinds::Kind;
 pub use outcome::Outcome;
-pub use tokens::HMAC_KEY;
-pub use tokens::TokenFault;
-pub use tokens::TokenFaultFromRefusal;
-pub use tokens::hmac_token;
 pub use reports::token_report;
+pub use reports::verify_report;
 pub use runs::run;
+pub use tags::Fault;
+pub use tags::FaultFromRefusal;
+pub use tags::check_confirmation;
+pub use tags::make_token;

@@ -44,8 +44,8 @@ hashed pad message e =
 -- the inner hash, from what the feeder holds at the end of a message
 inner : (k : Chains) (message : List ℕ)
     → (let n = ahead 64 (length message) in
-       let rest = drop (64 * n) message in
-       finished (chained n (k .inner) message) rest (((512 + 512 * n) % 2 ^ 64 + 8 * length rest) % 2 ^ 64))
+    let rest = drop (64 * n) message in
+    finished (chained n (k .inner) message) rest (((512 + 512 * n) % 2 ^ 64 + 8 * length rest) % 2 ^ 64))
     ≡ finished (k .inner) message ((512 + 8 * length message) % 2 ^ 64)
 inner k message =
     let n = ahead 64 (length message) in
@@ -65,8 +65,8 @@ hmac-law key message e =
     let rest = drop (64 * n) message in
     let digest = sha256 (innerPad key ++ message) in
     let outer : sha256 (outerPad key ++ digest) ≡ finished (k .outer) digest 768 =
-      hashed (outerPad key) digest (length-pad 0x5c key e)
-      ∙ ap (λ m. finished (k .outer) digest ((512 + 8 * m) % 2 ^ 64)) (length-sha256 (innerPad key ++ message)) in
+    hashed (outerPad key) digest (length-pad 0x5c key e)
+    ∙ ap (λ m. finished (k .outer) digest ((512 + 8 * m) % 2 ^ 64)) (length-sha256 (innerPad key ++ message)) in
     ap (λ h. hmacChaining .finish k (h .value) (h .waiting)) (bytes-seen 64 step (lit< tt) (hmacChaining .start k) [] message (lit≤ tt))
     ∙ ap (λ v. hmacChaining .finish k v rest) (stepped-blocks k n (k .inner) 512 message)
     ∙ ap (λ i. finished (k .outer) i 768) (inner k message ∙ sym (hashed (innerPad key) message (length-pad 0x36 key e)))
@@ -83,3 +83,7 @@ told k k₂ s s₂ key message out ek es es₂ law e =
     ∙ ap (λ q. M .closes q s₂) ek
     ∙ ap (M .closes k) (es₂ ∙ ap (λ q. M .feeds k q message) es)
     ∙ law
+
+pub length-hmac : (key message : List ℕ) → length (hmac key message) ≡ 32
+unfolding hmac
+length-hmac key message = length-sha256 (outerPad key ++ sha256 (innerPad key ++ message))

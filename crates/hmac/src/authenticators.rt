@@ -11,8 +11,8 @@ ghost use Rattle.authenticator.specs.Feeding.{fed};
 ghost use Rattle.hmac.specs.Hmac.{hmac};
 ghost use Rattle.hmac.specs.Chains.{chainsOf, hmacChaining};
 ghost use Rattle.hmac.specs.Keyed.{chainsIn, heldIn, Fits};
-use crate::core::HmacCore;
 use crate::core::HmacBlockCore;
+use crate::core::HmacCore;
 use crate::core::TAG;
 use crate::keys::KEY;
 use crate::keys::PADS;
@@ -24,6 +24,7 @@ use refusal::Refusal;
 
 /// The marks of the two key pads.
 const INNER: u8 = 0x36;
+
 const OUTER: u8 = 0x5c;
 
 /// HMAC-SHA-256 under one key.
@@ -51,7 +52,12 @@ impl Hmac {
         }
         let inner = chain(guard.pads, key, INNER);
         let outer = chain(guard.pads, key, OUTER);
-        let feeder = Feeder::new(HmacCore { inner, outer, words: inner, bits: 0 });
+        let feeder = Feeder::new(HmacCore {
+            inner,
+            outer,
+            words: inner,
+            bits: 0,
+        });
         Ok(Hmac { feeder })
     }
 }

@@ -23,6 +23,6 @@ pub listed : (word nonce : List ℕ) (low high : ℕ) → word ≡ low ∷ high 
     ≡ low ∷ high ∷ nonce
 listed word nonce low high e long =
     let eight : nonce ≡ getD nonce 0 0 ∷ getD nonce 1 0 ∷ getD nonce 2 0 ∷ getD nonce 3 0 ∷ getD nonce 4 0 ∷ getD nonce 5 0 ∷ getD nonce 6 0 ∷ getD nonce 7 0 ∷ [] =
-      fill-by-all (λ k. getD nonce k 0) nonce 8 0 long (λ k _. refl) in
+    fill-by-all (λ k. getD nonce k 0) nonce 8 0 long (λ k _. refl) in
     ap (λ w. getD w 0 0 ∷ getD w 1 0 ∷ getD nonce 0 0 ∷ getD nonce 1 0 ∷ getD nonce 2 0 ∷ getD nonce 3 0 ∷ getD nonce 4 0 ∷ getD nonce 5 0 ∷ getD nonce 6 0 ∷ getD nonce 7 0 ∷ []) e
     ∙ ap (λ n. low ∷ high ∷ n) (sym eight)

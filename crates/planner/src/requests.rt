@@ -34,17 +34,24 @@ impl Request {
 
     /// Ends the request without an answer.
     pub fn give_up(self) {
-        let Request { version: _, nonce: _ } = self;
+        let Request {
+            version: _,
+            nonce: _,
+        } = self;
     }
 
     /// Ends the request with the board's confirmation: accepted exactly where it is the tag.
-    pub fn verify<K: Authenticator>(self, authenticator: &mut K, confirmation: &[u8]) -> Result<(), Refusal>
+    pub fn verify<K: Authenticator>(
+        self,
+        authenticator: &mut K,
+        confirmation: &[u8],
+    ) -> Result<(), Refusal>
         ensures key { λ _. ⌜ key (now (authenticator .exit)) ≡ key (now (authenticator .entry)) ⌝ }
         ensures answer { λ r. ⌜ Cases r (λ _. now (confirmation .entry) ≡ confirmationOf means (key (now (authenticator .entry))) (self .version) (self .nonce)) (λ e. Rejects means (key (now (authenticator .entry))) (self .version) (self .nonce) (now (confirmation .entry)) e) ⌝ }
         ensures begun { λ _. ⌜ (length (now (confirmation .entry)) ≡ means .size → state (now (authenticator .exit)) ≡ means .begin (key (now (authenticator .entry)))) ⌝ }
         ensures kept { λ _. ⌜ ((length (now (confirmation .entry)) ≡ means .size → ⊥) → now (authenticator .exit) ≡ now (authenticator .entry)) ⌝ }
     {
-        let Request { version, nonce } = self;
+        let Request { nonce, version } = self;
         if confirmation.len() != K::tag_len() {
             return Err(Refusal::TagLength);
         }

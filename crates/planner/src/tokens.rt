@@ -16,7 +16,11 @@ use refusal::Refusal;
 const TOKEN: u8 = 0;
 
 /// Writes the image's token, then zeros, into `out`. A refusal changes nothing.
-pub fn token<K: Authenticator>(authenticator: &mut K, image: &[u8], out: &mut [u8]) -> Result<(), Refusal>
+pub fn token<K: Authenticator>(
+    authenticator: &mut K,
+    image: &[u8],
+    out: &mut [u8],
+) -> Result<(), Refusal>
     ensures key { λ _. ⌜ key (now (authenticator .exit)) ≡ key (now (authenticator .entry)) ⌝ }
     ensures answer { λ r. ⌜ Cases r (λ _. (length (now (out .entry)) ≡ 32) × IsImage (now (image .entry))) (λ e. Refuses (now (out .entry)) (now (image .entry)) e) ⌝ }
     ensures state { λ r. ⌜ Cases r (λ _. state (now (authenticator .exit)) ≡ means .begin (key (now (authenticator .entry)))) (λ _. now (authenticator .exit) ≡ now (authenticator .entry)) ⌝ }

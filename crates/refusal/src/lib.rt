@@ -28,11 +28,13 @@ impl Refusal {
 
 pub impl fmt::Display for Refusal as RefusalDisplay {
     fn fmt<W: fmt::Write>(&self, f: &mut fmt::Formatter<W>) -> fmt::Result {
-        f.write_str(match self {
-            Refusal::WrongLength => "a key or a buffer has a wrong length",
-            Refusal::BadImage => "the bytes are not an image",
-            Refusal::TagLength => "it has not the length of a tag",
-            Refusal::WrongConfirmation => "the confirmation is not the tag",
-        })
+        f.write_str(
+            match self {
+                Refusal::WrongLength => "a key or a buffer has a wrong length",
+                Refusal::BadImage => "the bytes are not an image",
+                Refusal::TagLength => "it has not the length of a tag",
+                Refusal::WrongConfirmation => "the confirmation is not the tag",
+            },
+        )
     }
 }

@@ -1,12 +1,20 @@
 //! SHA-256: the examples of FIPS 180-4, the empty message, and a million times 'a'.
 
-use crate::comparison::compare;
+use crate::bytes::compare;
 use sha256::hash;
 use std::error::AnyError;
 
 const HASHES: [(&str, &str, &str); 3] = [
-    ("SHA-256, empty", "", "e3b0c44298fc1c149afbf4c8996fb92427ae41e4649b934ca495991b7852b855"),
-    ("SHA-256, abc", "abc", "ba7816bf8f01cfea414140de5dae2223b00361a396177a9cb410ff61f20015ad"),
+    (
+        "SHA-256, empty",
+        "",
+        "e3b0c44298fc1c149afbf4c8996fb92427ae41e4649b934ca495991b7852b855",
+    ),
+    (
+        "SHA-256, abc",
+        "abc",
+        "ba7816bf8f01cfea414140de5dae2223b00361a396177a9cb410ff61f20015ad",
+    ),
     (
         "SHA-256, two blocks",
         "abcdbcdecdefdefgefghfghighijhijkijkljklmklmnlmnomnopnopq",
@@ -21,5 +29,10 @@ pub fn run(rt: &LibcRuntime) -> Result<(), AnyError> {
         compare(rt, name, &hash(message.as_bytes()), digest)?;
     }
     let message = vec![in rt.alloc(); b'a'; 1_000_000]?;
-    compare(rt, "SHA-256, a million a", &hash(message.as_slice()), MILLION)
+    compare(
+        rt,
+        "SHA-256, a million a",
+        &hash(message.as_slice()),
+        MILLION,
+    )
 }

@@ -1,6 +1,7 @@
 //! Published vectors, run through the public calls. Ends with status 1 at the first mismatch.
 
-mod comparison;
+mod bytes;
+mod ciphers;
 mod hashes;
 mod tags;
 
@@ -8,5 +9,6 @@ use std::error::AnyError;
 
 fn main(rt: LibcRuntime) -> Result<(), AnyError> {
     hashes::run(&rt)?;
+    ciphers::run(&rt)?;
     tags::run(&rt)
 }

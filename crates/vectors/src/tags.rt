@@ -1,9 +1,11 @@
-//! HMAC-SHA-256: the cases of RFC 4231 whose key has at most 32 bytes. A shorter key is filled with zeros, which is the
-//! same HMAC key.
+//! HMAC-SHA-256: the cases of RFC 4231 whose key has at most 32 bytes; a shorter key is filled with zeros, which is the
+//! same HMAC key. AES-CMAC: the examples of RFC 4493.
 
-use crate::comparison::compare;
+use crate::bytes::compare;
+use crate::bytes::read;
 use authenticator::Authenticator;
-use commands::from_hex;
+use cmac::Cmac;
+use cmac::CmacAuthenticator;
 use hmac::Hmac;
 use hmac::HmacAuthenticator;
 use std::error::AnyError;
@@ -13,11 +15,11 @@ struct Case {
     name: &'static str,
     key: &'static str,
     message: &'static str,
-    /// The tag, or its first bytes where the case truncates it.
+    // the tag, or its first bytes where the case truncates it
     tag: &'static str,
 }
 
-const CASES: [Case; 5] = [
+const HMAC: [Case; 5] = [
     Case {
         name: "HMAC-SHA-256, case 1",
         key: "0b0b0b0b0b0b0b0b0b0b0b0b0b0b0b0b0b0b0b0b",
@@ -50,35 +52,69 @@ const CASES: [Case; 5] = [
     },
 ];
 
+const CMAC: [Case; 4] = [
+    Case {
+        name: "AES-CMAC, example 1",
+        key: "2b7e151628aed2a6abf7158809cf4f3c",
+        message: "",
+        tag: "bb1d6929e95937287fa37d129b756746",
+    },
+    Case {
+        name: "AES-CMAC, example 2",
+        key: "2b7e151628aed2a6abf7158809cf4f3c",
+        message: "6bc1bee22e409f96e93d7e117393172a",
+        tag: "070a16b46b4d4144f79bdd9dd04a287c",
+    },
+    Case {
+        name: "AES-CMAC, example 3",
+        key: "2b7e151628aed2a6abf7158809cf4f3c",
+        message: "6bc1bee22e409f96e93d7e117393172aae2d8a571e03ac9c9eb76fac45af8e5130c81c46a35ce411",
+        tag: "dfa66747de9ae63030ca32611497c827",
+    },
+    Case {
+        name: "AES-CMAC, example 4",
+        key: "2b7e151628aed2a6abf7158809cf4f3c",
+        message: "6bc1bee22e409f96e93d7e117393172aae2d8a571e03ac9c9eb76fac45af8e5130c81c46a35ce411e5fbc1191a0a52eff69f2445df4f9b17ad2b417be66c3710",
+        tag: "51f0bebf7e3b9d92fc49741779363cfe",
+    },
+];
+
 pub fn run(rt: &LibcRuntime) -> Result<(), AnyError> {
-    for case in CASES {
-        run_case(rt, &case)?;
+    for case in HMAC {
+        let mut key = read(rt, case.key)?;
+        key.resize(32, 0)?;
+        match Hmac::new(key.as_slice(), &mut [0; 64]) {
+            Ok(mut hmac) => run_case(rt, &mut hmac, &case)?,
+            Err(_) => return Err("the key was refused".into()),
+        }
+    }
+    for case in CMAC {
+        match Cmac::new(read(rt, case.key)?.as_slice()) {
+            Ok(mut cmac) => run_case(rt, &mut cmac, &case)?,
+            Err(_) => return Err("the key was refused".into()),
+        }
     }
     Ok(())
 }
 
 // The message is fed in two parts, cut in its middle.
-fn run_case(rt: &LibcRuntime, case: &Case) -> Result<(), AnyError> {
-    let mut key = bytes(rt, case.key)?;
-    key.resize(32, 0)?;
-    let message = bytes(rt, case.message)?;
+fn run_case<K: Authenticator>(
+    rt: &LibcRuntime,
+    authenticator: &mut K,
+    case: &Case,
+) -> Result<(), AnyError> {
+    let message = read(rt, case.message)?;
     let (front, back) = message.as_slice().split_at(message.len() / 2);
-    let mut pads = [0; 64];
     let mut out = [0; 32];
-    let Ok(mut authenticator) = Hmac::new(key.as_slice(), &mut pads) else {
-        return Err("the key was refused".into());
-    };
     authenticator.feed(front);
     authenticator.feed(back);
     if authenticator.close(&mut out).is_err() {
         return Err("the buffer was refused".into());
     }
-    compare(rt, case.name, &out[0..(case.tag.len() / 2).min(32)], case.tag)
-}
-
-fn bytes(rt: &LibcRuntime, text: &str) -> Result<Vec<u8>, AnyError> {
-    match from_hex(rt.alloc(), text.as_bytes())? {
-        Some(bytes) => Ok(bytes),
-        None => Err("a vector is not hex".into()),
-    }
+    compare(
+        rt,
+        case.name,
+        &out[0..(case.tag.len() / 2).min(32)],
+        case.tag,
+    )
 }

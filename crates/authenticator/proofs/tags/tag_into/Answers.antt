@@ -11,9 +11,9 @@ returns g c =
     let k = m .key (c .args .authenticator .now) in
     let keyed : m .key (c .feed-2 .last .self) ≡ k = c .feed-2 .ensures .key ∙ c .feed .ensures .key ∙ c .«open» .ensures .key in
     let whole : m .state (c .feed-2 .last .self) ≡ M .feeds k (M .begin k) (c .args .kind ∷ c .args .message .now) =
-      let j = M .joined k (M .begin k) (c .args .kind ∷ []) (c .args .message .now) in cc in
+    let j = M .joined k (M .begin k) (c .args .kind ∷ []) (c .args .message .now) in cc in
     let tagged : M .closes (m .key (c .feed-2 .last .self)) (m .state (c .feed-2 .last .self)) ≡ tag M k (c .args .kind ∷ c .args .message .now) =
-      ap (λ q. M .closes q (m .state (c .feed-2 .last .self))) keyed ∙ ap (M .closes k) whole in
+    ap (λ q. M .closes q (m .state (c .feed-2 .last .self))) keyed ∙ ap (M .closes k) whole in
     record {
       key = c .close .ensures .key ∙ keyed;
       answer = c .close .ensures .answer;

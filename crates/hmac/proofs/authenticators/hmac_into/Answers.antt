@@ -13,7 +13,7 @@ returns c =
       wiped = made .wiped;
       kept = made .kept;
       out =
-        cases-weaker (c .close .result) (c .close .ensures .out)
-        (λ _ e. told (chainsIn a) (chainsIn fed) (heldIn a) (heldIn fed) (c .args .key .now) (c .args .message .now) _ (c .feed .ensures .key) (made .made .1) (c .feed .ensures .state) (made .law (c .args .message .now)) e)
-        (λ _ e. e);
+          cases-weaker (c .close .result) (c .close .ensures .out)
+          (λ _ e. told (chainsIn a) (chainsIn fed) (heldIn a) (heldIn fed) (c .args .key .now) (c .args .message .now) _ (c .feed .ensures .key) (made .made .1) (c .feed .ensures .state) (made .law (c .args .message .now)) e)
+          (λ _ e. e);
     }

@@ -18,13 +18,14 @@ loop-at-again g c =
     let after = c .gather-at .last .self in
     let left : length (drop (l .at) xs) ≡ length xs - l .at = length-drop (l .at) xs in
     let rest : take (length xs - l .at) (drop (l .at) xs) ≡ drop (l .at) xs = take-all (length xs - l .at) (drop (l .at) xs) (omega arith) in
-    let used : length (take (roomy .used) (roomy .block)) ≡ roomy .used = length-take-le (roomy .used) (roomy .block) (omega arith) in
-    (omega arith,
-     ap (m .key) (c .gather-at .ensures .core) ∙ c .make-room .ensures .key ∙ l .inv .1,
-     turn (g .W) (m .chaining .step) _ (m .key (before .core)) (held (m .value (before .core)) (before .used) (before .block)) _
-       (m .value (roomy .core)) (m .value (after .core)) (take (roomy .used) (roomy .block)) (take (after .used) (after .block)) xs (l .at) (c .gather-at .result)
-       (before .wide) (c .loop-at-test .taken) (l .inv .1) (c .make-room .ensures .state)
-       (ap (m .value) (c .gather-at .ensures .core)) (c .gather-at .ensures .block ∙ ap (λ q. take (roomy .used) (roomy .block) ++ take (c .gather-at .result) q) rest) (omega arith) (omega arith) (l .inv .2))
+    let used : length (take (roomy .used) (roomy .block)) ≡ roomy .used = length-take-le (roomy .used) (roomy .block) (omega arith) in (
+      omega arith,
+      ap (m .key) (c .gather-at .ensures .core) ∙ c .make-room .ensures .key ∙ l .inv .1,
+      turn (g .W) (m .chaining .step) _ (m .key (before .core)) (held (m .value (before .core)) (before .used) (before .block)) _
+          (m .value (roomy .core)) (m .value (after .core)) (take (roomy .used) (roomy .block)) (take (after .used) (after .block)) xs (l .at) (c .gather-at .result)
+          (before .wide) (c .loop-at-test .taken) (l .inv .1) (c .make-room .ensures .state)
+          (ap (m .value) (c .gather-at .ensures .core)) (c .gather-at .ensures .block ∙ ap (λ q. take (roomy .used) (roomy .block) ++ take (c .gather-at .result) q) rest) (omega arith) (omega arith) (l .inv .2),
+    )
 
 pub loop-at-less : need.loop-at-less
 loop-at-less g c =

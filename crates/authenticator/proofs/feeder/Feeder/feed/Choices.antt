@@ -11,7 +11,7 @@ Inv-loop-at g l =
     let k = m .key (l .entry .self .core) in
     (l .at ≤ length (l .part)) × (m .key (l .self .core) ≡ k)
     × (bytes (g .W) (m .chaining .step k) (held (m .value (l .self .core)) (l .self .used) (l .self .block)) (drop (l .at) (l .part))
-      ≡ bytes (g .W) (m .chaining .step k) (held (m .value (l .entry .self .core)) (l .entry .self .used) (l .entry .self .block)) (l .part))
+    ≡ bytes (g .W) (m .chaining .step k) (held (m .value (l .entry .self .core)) (l .entry .self .used) (l .entry .self .block)) (l .part))
 
 abbrev pub μ-loop-at : given.MeasureT-loop-at
 μ-loop-at g l = length (l .part) - l .at

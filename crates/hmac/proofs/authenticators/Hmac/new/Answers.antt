@@ -14,9 +14,9 @@ returns c =
     let f = c .new-feeder .result in
     let made : Chains = record { inner = f .core .inner; outer = f .core .outer } in
     let keyed : made ≡ chainsOf key =
-      c .new-feeder .ensures .key
-      ∙ ap (λ i. record { inner = i; outer = c .chain-outer .result }) (c .chain-inner .ensures)
-      ∙ ap (λ o. record { inner = chainsOf key .inner; outer = o }) (c .chain-outer .ensures) in
+    c .new-feeder .ensures .key
+    ∙ ap (λ i. record { inner = i; outer = c .chain-outer .result }) (c .chain-inner .ensures)
+    ∙ ap (λ o. record { inner = chainsOf key .inner; outer = o }) (c .chain-outer .ensures) in
     record {
       answer = search needs;
       wiped = search needs;

@@ -1,0 +1,4 @@
+pub mod Field
+pub mod Words
+pub mod Cipher
+pub mod Keys

@@ -1,0 +1,3 @@
+pub mod Last
+pub mod Law
+pub mod Numbers
