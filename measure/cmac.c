@@ -1,6 +1,6 @@
 /* AES-CMAC of one part of 50,000 bytes: the proved library beside a plain table-driven C version, best of many runs in turn.
  *   rt staticlib bench_c
- *   gcc -O2 -o /tmp/cmac measure/cmac.c target/staticlib/libbench_c.a "$(dirname "$(rt doc)")/../lib/librattle_c.a" && /tmp/cmac
+ *   gcc -O2 -o target/cmac measure/cmac.c target/staticlib/libbench_c.a "$(dirname "$(rt doc)")/../lib/librattle_c.a" && target/cmac
  */
 #include <stdint.h>
 #include <stdio.h>
