@@ -1,6 +1,6 @@
 //! `changeover`: the planner's commands. What is printed of a failure goes to standard error.
 
-use commands::run;
+use dispatch::run;
 use std::env;
 use std::error::AnyError;
 

@@ -5,7 +5,6 @@ mod key;
 mod kinds;
 mod outcome;
 mod reports;
-mod runs;
 mod tags;
 
 pub use hex::from_hex;
@@ -14,9 +13,9 @@ pub use key::KeyFault;
 pub use key::read_key;
 pub use kinds::Kind;
 pub use outcome::Outcome;
+pub use reports::failed;
 pub use reports::token_report;
 pub use reports::verify_report;
-pub use runs::run;
 pub use tags::Fault;
 pub use tags::FaultFromRefusal;
 pub use tags::check_confirmation;

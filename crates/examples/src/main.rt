@@ -1,9 +1,9 @@
 //! Runs a table of command lines, bad input among them, and prints each text and status.
 
-use commands::run;
+use dispatch::run;
 use std::error::AnyError;
 
-const LINES: [&str; 34] = [
+const LINES: [&str; 47] = [
     "",
     "help",
     "help me",
@@ -38,6 +38,19 @@ const LINES: [&str; 34] = [
     "verify key.raw 7 0102030405060708 xy",
     "verify short.raw 7 0102030405060708 9dae92daa3a9332d54e03e493755e9c3bd4aad6133e700716e10a2dcd3cc0e19",
     "verify key.raw 7",
+    "image small.image",
+    "image big.image 6",
+    "image big.image 110",
+    "image big.image 111",
+    "image unlike.image",
+    "image small.image 3",
+    "image small.image 112",
+    "image --cmac small.image",
+    "watch bus.trace 4 46",
+    "watch bus.trace",
+    "watch bus.trace 4 45",
+    "watch bad.trace",
+    "watch none.trace",
 ];
 
 fn main(rt: LibcRuntime) -> Result<(), AnyError> {

@@ -29,7 +29,7 @@ impl Drop for Wiped<'_> {
 }
 
 /// The chaining value after a key pad, which is formed in `pads`.
-pub fn chain(pads: &mut [u8], key: &[u8], mark: u8) -> [u32; 8]
+pub(crate) fn chain(pads: &mut [u8], key: &[u8], mark: u8) -> [u32; 8]
     requires { ⌜ length (now pads) ≡ 64 ⌝ ∗ ⌜ length (now key) ≡ 32 ⌝ }
     ensures { λ r. ⌜ r ≡ compressed initial (pad mark (now (key .entry))) ⌝ }
 {

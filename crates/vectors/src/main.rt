@@ -2,6 +2,7 @@
 
 mod bytes;
 mod ciphers;
+mod controls;
 mod hashes;
 mod tags;
 
@@ -10,5 +11,6 @@ use std::error::AnyError;
 fn main(rt: LibcRuntime) -> Result<(), AnyError> {
     hashes::run(&rt)?;
     ciphers::run(&rt)?;
-    tags::run(&rt)
+    tags::run(&rt)?;
+    controls::run(&rt)
 }

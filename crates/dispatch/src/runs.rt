@@ -2,86 +2,25 @@
 
 ghost use Prim.Native.Nat.{_≤_};
 ghost use Rattle.std.specs.Vec.{made};
-use crate::hex::from_hex;
-use crate::kinds::Kind;
-use crate::outcome::Outcome;
-use crate::reports::failed;
-use crate::reports::token_report;
-use crate::reports::verify_report;
+use crate::words::Command;
+use crate::words::USAGE;
+use crate::words::parse;
+use commands::Kind;
+use commands::Outcome;
+use commands::failed;
+use commands::from_hex;
+use commands::token_report;
+use commands::verify_report;
+use inspect::image_text;
+use inspect::watch_text;
+use layout::ADDRESSED;
+use layout::Place;
+use layout::is_open;
+use refusal::RefusalDisplay;
 use std::alloc::AllocError;
 use std::alloc::Global;
 use std::fs;
 use std::rt::Files;
-
-const USAGE: &str = "usage:
-  changeover token [--cmac] KEYFILE IMAGEFILE
-      make the token of an image
-  changeover verify [--cmac] KEYFILE VERSION NONCE CONFIRMATION
-      say whether a board's confirmation is the one for a version and a nonce
-  changeover help
-      say how it is used
-
-KEYFILE       32 bytes for HMAC-SHA-256, 16 for AES-CMAC (--cmac); or twice as many hex digits, and at most a newline
-IMAGEFILE     the image's bytes
-VERSION       a number from 0 to 65535
-NONCE         16 hex digits, in the order of the bytes in the image
-CONFIRMATION  hex digits
-";
-
-// A command line, taken apart.
-enum Command<'a> {
-    Help,
-    Token {
-        kind: Kind,
-        key_file: &'a str,
-        image_file: &'a str,
-    },
-    Verify {
-        kind: Kind,
-        key_file: &'a str,
-        version: &'a str,
-        nonce: &'a str,
-        confirmation: &'a str,
-    },
-    // A command that there is, with other words behind it than it takes.
-    Misused(&'a str),
-    Unknown(&'a str),
-}
-
-// The command that the words after the program's name give.
-fn parse(words: &[String]) -> Command<'_> {
-    match words {
-        [] => Command::Help,
-        [name, flag, rest @ ..] if flag.as_str() == "--cmac" => parse_command(
-            name.as_str(),
-            Kind::Cmac,
-            rest,
-        ),
-        [name, rest @ ..] => parse_command(name.as_str(), Kind::Hmac, rest),
-    }
-}
-
-fn parse_command<'a>(name: &'a str, kind: Kind, rest: &'a [String]) -> Command<'a> {
-    match (name, rest) {
-        ("help", []) => Command::Help,
-        ("token", [key_file, image_file]) => {
-            Command::Token {
-                kind,
-                key_file: key_file.as_str(),
-                image_file: image_file.as_str(),
-            }
-        }
-        ("verify", [key_file, version, nonce, confirmation]) => Command::Verify {
-            kind,
-            key_file: key_file.as_str(),
-            version: version.as_str(),
-            nonce: nonce.as_str(),
-            confirmation: confirmation.as_str(),
-        },
-        ("help" | "token" | "verify", _) => Command::Misused(name),
-        (unknown, _) => Command::Unknown(unknown),
-    }
-}
 
 /// Runs the command that `words` give: status 0, and what it made; or status 1, and one line that says why not, with the
 /// usage where the words are wrong.
@@ -106,6 +45,12 @@ pub fn run<R: Files + Alloc<A = Global>>(rt: &R, words: &[String]) -> Result<Out
             nonce,
             confirmation,
         } => { verify(rt, kind, key_file, version, nonce, confirmation) }
+        Command::Image { file, block } => image(rt, file, block),
+        Command::Idle { file } => watch(rt, file, None),
+        Command::Watch { file, block, len } => match place_of(block, len) {
+            Some(place) => watch(rt, file, Some(place)),
+            None => failed(format!(heap, "no image of {len} bytes can lie at block {block}\n")),
+        },
         Command::Misused(name) => failed(format!(heap, "{name} takes other words\n{USAGE}")),
         Command::Unknown(name) => failed(format!(heap, "there is no command {name}\n{USAGE}")),
     }
@@ -165,6 +110,65 @@ fn verify<R: Files + Alloc<A = Global>>(
             reply.as_slice(),
         ),
     }
+}
+
+fn image<R: Files + Alloc<A = Global>>(
+    rt: &R,
+    file: &str,
+    block: &str,
+) -> Result<Outcome, AllocError>
+    ensures { λ r. ⌜ made r (λ o. o .status ≤ 1) ⌝ }
+{
+    let heap = rt.alloc();
+    let Some(first) = block_of(block) else {
+        return failed(format!(heap, "{block} is not a block: a number from 4 to 111\n"));
+    };
+    match fs::read(rt, file) {
+        Err(error) => unread(heap, file, error),
+        Ok(bytes) => match image_text(heap, bytes.as_slice(), first)? {
+            Ok(text) => Ok(Outcome { text, status: 0 }),
+            Err(refusal) => {
+                let number = refusal.number();
+                failed(format!(
+                    heap,
+                    "refusal {number}: {refusal}, or it goes past block 111\n"
+                ))
+            }
+        },
+    }
+}
+
+fn watch<R: Files + Alloc<A = Global>>(
+    rt: &R,
+    file: &str,
+    running: Option<Place>,
+) -> Result<Outcome, AllocError>
+    ensures { λ r. ⌜ made r (λ o. o .status ≤ 1) ⌝ }
+{
+    let heap = rt.alloc();
+    match fs::read_to_string(rt, file) {
+        Err(error) => unread(heap, file, error),
+        Ok(trace) => match watch_text(heap, running, trace.as_str())? {
+            Ok(text) => Ok(Outcome { text, status: 0 }),
+            Err(unreadable) => {
+                let line = unreadable.line;
+                failed(format!(heap, "line {line} of {file} is not a cycle\n"))
+            }
+        },
+    }
+}
+
+fn block_of(text: &str) -> Option<usize> {
+    let block = text.parse::<usize>().ok()?;
+    if is_open(block, ADDRESSED) {
+        Some(block)
+    } else {
+        None
+    }
+}
+
+fn place_of(block: &str, len: &str) -> Option<Place> {
+    Place::new(block_of(block)?, len.parse::<u16>().ok()?, ADDRESSED)
 }
 
 fn nonce_of(heap: Global, text: &str) -> Result<Option<[u8; 8]>, AllocError> {

@@ -1,0 +1,3 @@
+pub mod Crc
+pub mod Blocks
+pub mod Calls

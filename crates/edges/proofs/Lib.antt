@@ -1,0 +1,3 @@
+mod Erased
+mod Formed
+mod Stand
