@@ -9,14 +9,8 @@ mod tags;
 
 pub use hex::from_hex;
 pub use hex::push_hex;
-pub use key::KeyFault;
-pub use key::read_key;
 pub use kinds::Kind;
 pub use outcome::Outcome;
 pub use reports::failed;
 pub use reports::token_report;
 pub use reports::verify_report;
-pub use tags::Fault;
-pub use tags::FaultFromRefusal;
-pub use tags::check_confirmation;
-pub use tags::make_token;
