@@ -1,5 +1,7 @@
 //! AES-128, as FIPS 197 has it.
 
+#![tactic(auto)]
+
 mod aes128;
 mod cipher;
 mod columns;

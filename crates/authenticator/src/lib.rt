@@ -1,5 +1,7 @@
 //! What an authenticator is, and the feeder that makes one of any block algorithm.
 
+#![tactic(auto)]
+
 mod comparison;
 mod feeder;
 mod meaning;

@@ -1,6 +1,8 @@
 //! How long the tag of one part of 50,000 bytes takes. The time goes to standard error, so that what standard output has
 //! is the same in every run.
 
+#![tactic(auto)]
+
 use anyhow::anyhow;
 use authenticator::Authenticator;
 use cmac::Cmac;

@@ -1,5 +1,7 @@
 //! Tags for C, to be measured beside other libraries.
 
+#![tactic(auto)]
+
 ghost use Rattle.std.specs.Prelude.{◌⊎◌, ◌≡◌, length};
 ghost use Rattle.authenticator.specs.Meaning.{padded};
 ghost use Rattle.cmac.specs.Cmac.{cmac};

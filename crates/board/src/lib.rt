@@ -1,5 +1,7 @@
 //! A board: its states and its calls. What each call means is said in specs/Calls.antt.
 
+#![tactic(auto)]
+
 mod answers;
 mod buffers;
 mod closing;

@@ -1,5 +1,7 @@
 //! `changeover`: the planner's commands. What is printed of a failure goes to standard error.
 
+#![tactic(auto)]
+
 use anyhow::anyhow;
 use dispatch::run;
 use std::env;

@@ -1,5 +1,7 @@
 //! The chip store: NOR flash in borrowed memory.
 
+#![tactic(auto)]
+
 mod nor;
 mod stores;
 

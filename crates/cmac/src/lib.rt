@@ -1,5 +1,7 @@
 //! AES-CMAC, as RFC 4493 has it.
 
+#![tactic(auto)]
+
 mod authenticators;
 mod blocks;
 mod core;

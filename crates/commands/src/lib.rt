@@ -1,5 +1,7 @@
 //! The commands, as functions on values.
 
+#![tactic(auto)]
+
 mod hex;
 mod key;
 mod kinds;

@@ -1,5 +1,7 @@
 //! The control blocks, 0 to 3: what they hold, and the check by which they stand.
 
+#![tactic(auto)]
+
 mod crc;
 mod forming;
 mod kind;

@@ -1,5 +1,7 @@
 //! `demonstrate`: prints a changeover that is cut at each of its five writes.
 
+#![tactic(auto)]
+
 use demonstration::demonstrate;
 
 fn main(rt: HostRuntime) -> anyhow::Result<()> {

@@ -1,5 +1,7 @@
 //! The program's command lines: taken apart, and run.
 
+#![tactic(auto)]
+
 mod runs;
 mod words;
 

@@ -1,6 +1,8 @@
 //! Theorems over the definitions that the contracts of `layout`, `control` and `watch` cite. The answers say nothing;
 //! the contracts do.
 
+#![tactic(auto)]
+
 ghost use Rattle.edges.specs.Edges.{Edges};
 ghost use Rattle.edges.specs.ReadsBack.{ReadsBack};
 

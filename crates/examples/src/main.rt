@@ -1,5 +1,7 @@
 //! Runs a table of command lines, bad input among them, and prints each text and status.
 
+#![tactic(auto)]
+
 use dispatch::run;
 
 const LINES: [&str; 47] = [

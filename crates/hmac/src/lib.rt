@@ -1,5 +1,7 @@
 //! HMAC-SHA-256.
 
+#![tactic(auto)]
+
 mod authenticators;
 mod core;
 mod keys;

@@ -1,5 +1,7 @@
 //! What can be told of an image, and of a trace of the bus, without a board.
 
+#![tactic(auto)]
+
 mod images;
 mod traces;
 

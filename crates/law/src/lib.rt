@@ -1,5 +1,7 @@
 //! The law of a board's lifecycle, over every history that the meaning of its calls allows.
 
+#![tactic(auto)]
+
 ghost use Rattle.law.specs.GoesOn.{GoesOn};
 ghost use Rattle.law.specs.Law.{Law};
 

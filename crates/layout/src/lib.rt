@@ -1,5 +1,7 @@
 //! How an image lies in its bytes, and on a board.
 
+#![tactic(auto)]
+
 mod addresses;
 mod header;
 mod place;

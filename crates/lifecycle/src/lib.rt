@@ -1,6 +1,8 @@
 //! A board's working life: a board with its store, its authenticator and a journal of its calls, and the law that every
 //! such life keeps.
 
+#![tactic(auto)]
+
 mod answers;
 mod driver;
 mod journal;

@@ -1,5 +1,7 @@
 //! Theorems over the definitions that contracts cite. The answers say nothing; the contracts do.
 
+#![tactic(auto)]
+
 ghost use Rattle.offer_edges.specs.Edges.{Edges};
 ghost use Rattle.offer_edges.specs.ReadsBack.{ReadsBack};
 

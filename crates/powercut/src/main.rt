@@ -1,6 +1,8 @@
 //! Cuts the supply of each store at every point of its plan, and prints what the blocks held after waking it. Ends
 //! with status 1 at the first mismatch.
 
+#![tactic(auto)]
+
 mod scene;
 mod sweep;
 mod trial;

@@ -1,5 +1,7 @@
 //! The numbers by which calls refuse, and their words.
 
+#![tactic(auto)]
+
 ghost use Rattle.std.specs.Prelude.{◌≡◌};
 ghost use Rattle.refusal.specs.Numbers.{number_of};
 

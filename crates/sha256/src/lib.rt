@@ -1,5 +1,7 @@
 //! SHA-256, as FIPS 180-4 has it.
 
+#![tactic(auto)]
+
 mod compression;
 mod constants;
 mod digest;

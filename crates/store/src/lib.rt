@@ -1,6 +1,8 @@
 //! Stores of 512-byte blocks whose supply can fail at a write: what a store is, the plain store, and the window, a
 //! layer over any store.
 
+#![tactic(auto)]
+
 mod fault;
 mod meaning;
 mod memory;

@@ -1,5 +1,7 @@
 //! Published vectors, run through the public calls. Ends with status 1 at the first mismatch.
 
+#![tactic(auto)]
+
 mod bytes;
 mod ciphers;
 mod controls;

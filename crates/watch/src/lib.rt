@@ -1,5 +1,7 @@
 //! The watch over the bus: which cycles pass while an image runs, and which reset the board.
 
+#![tactic(auto)]
+
 mod cycle;
 mod rules;
 mod runs;
