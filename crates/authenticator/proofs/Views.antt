@@ -1,9 +1,9 @@
 -- A message fed byte by byte, seen as a whole: the blocks ahead of its last one, and what is left of it.
-use Rattle.std.proofs.Common.{◌≡◌, ℕ, suc, ◌+◌, ◌-◌, ◌*◌, ◌/◌, ◌<◌, ◌≤◌, List, [], ◌∷◌, ◌++◌, length, take, drop, sym, refl, ap, ◌∙◌, ⊎_elim, add_comm, mul-zero, mul-suc, add-one, arith, length-append}
+use Rattle.std.proofs.Common.{◌≡◌, ℕ, suc, ◌+◌, ◌-◌, ◌*◌, ◌/◌, ◌<◌, ◌≤◌, List, [], ◌∷◌, ◌++◌, length, take, drop, sym, ap, ◌∙◌, ⊎_elim, add_comm, mul-zero, mul-suc, add-one, arith, length-append}
 use native.Mathlib.Nat.{div-eq_of_lt, add-div_left}
 use Rattle.std.proofs.lemmas.List.{append-nil, append_assoc, take-append-le, take_all, drop-append-le, drop_all, drop-drop}
 use Rattle.std.proofs.lemmas.Bool.{cases_eq}
-use Rattle.authenticator.specs.Feeding.{Held, byte, bytes, stepped}
+use Rattle.authenticator.specs.Feeding.{Held, bytes, stepped}
 use Rattle.authenticator.proofs.Feeds.{byte_full, byte_free}
 
 -- how many blocks of a message of n bytes are followed by a byte

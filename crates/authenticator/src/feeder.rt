@@ -50,8 +50,8 @@ pub struct Feeder<C, const W: usize> {
 impl<C: BlockCore<W>, const W: usize> Feeder<C, W> {
     /// A feeder that stands at the beginning.
     pub fn new(core: C) -> Self
-        ensures key { key result.core ≡ key core }
-        ensures state { held (value result.core) result.used result.block ≡ (fed W chaining).begin (key core) }
+        ensures key { C.key result.core ≡ C.key core }
+        ensures state { held (C.value result.core) result.used result.block ≡ (fed W C.chaining).begin (C.key core) }
     {
         let mut core = core;
         core.start();
@@ -64,8 +64,8 @@ impl<C: BlockCore<W>, const W: usize> Feeder<C, W> {
 
     /// Goes to the beginning, whatever was fed before.
     pub fn open(&mut self)
-        ensures key { key self.new.core ≡ key self.old.core }
-        ensures state { held (value self.new.core) self.new.used self.new.block ≡ (fed W chaining).begin (key self.old.core) }
+        ensures key { C.key self.new.core ≡ C.key self.old.core }
+        ensures state { held (C.value self.new.core) self.new.used self.new.block ≡ (fed W C.chaining).begin (C.key self.old.core) }
     {
         self.core.start();
         self.used = 0;
@@ -73,8 +73,8 @@ impl<C: BlockCore<W>, const W: usize> Feeder<C, W> {
 
     /// Takes the next part of the message, of any length.
     pub fn feed(&mut self, part: &[u8])
-        ensures key { key self.new.core ≡ key self.old.core }
-        ensures state { held (value self.new.core) self.new.used self.new.block ≡ (fed W chaining).feeds (key self.old.core) (held (value self.old.core) self.old.used self.old.block) part.now }
+        ensures key { C.key self.new.core ≡ C.key self.old.core }
+        ensures state { held (C.value self.new.core) self.new.used self.new.block ≡ (fed W C.chaining).feeds (C.key self.old.core) (held (C.value self.old.core) self.old.used self.old.block) part.now }
     {
         let mut at = 0;
         while at < part.len() {
@@ -86,10 +86,10 @@ impl<C: BlockCore<W>, const W: usize> Feeder<C, W> {
     /// Writes the tag, then zeros, into `out`, and goes back to the beginning. Refused where `out` has not 32
     /// bytes; then nothing has changed.
     pub fn close(&mut self, out: &mut [u8]) -> Result<(), Refusal>
-        ensures key { key self.new.core ≡ key self.old.core }
+        ensures key { C.key self.new.core ≡ C.key self.old.core }
         ensures answer { MatchResult result (λ _. length out.old ≡ 32) (λ e. (e ≡ WrongLength) × (length out.old ≢ 32)) }
-        ensures state { MatchResult result (λ _. held (value self.new.core) self.new.used self.new.block ≡ (fed W chaining).begin (key self.old.core)) (λ _. self.new ≡ self.old) }
-        ensures out { MatchResult result (λ _. out.new ≡ padded ((fed W chaining).closes (key self.old.core) (held (value self.old.core) self.old.used self.old.block))) (λ _. out.new ≡ out.old) }
+        ensures state { MatchResult result (λ _. held (C.value self.new.core) self.new.used self.new.block ≡ (fed W C.chaining).begin (C.key self.old.core)) (λ _. self.new ≡ self.old) }
+        ensures out { MatchResult result (λ _. out.new ≡ padded ((fed W C.chaining).closes (C.key self.old.core) (held (C.value self.old.core) self.old.used self.old.block))) (λ _. out.new ≡ out.old) }
     {
         if out.len() != TAG_BUFFER {
             return Err(Refusal::WrongLength);
@@ -102,8 +102,8 @@ impl<C: BlockCore<W>, const W: usize> Feeder<C, W> {
 
     /// Works on the block where it is full.
     fn make_room(&mut self)
-        ensures key { key self.new.core ≡ key self.old.core }
-        ensures state { held (value self.new.core) self.new.used self.new.block ≡ roomed W (chaining.step (key self.old.core)) (held (value self.old.core) self.old.used self.old.block) }
+        ensures key { C.key self.new.core ≡ C.key self.old.core }
+        ensures state { held (C.value self.new.core) self.new.used self.new.block ≡ roomed W (C.chaining.step (C.key self.old.core)) (held (C.value self.old.core) self.old.used self.old.block) }
         ensures room { self.new.used < W }
     {
         if self.used == W {

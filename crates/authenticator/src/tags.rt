@@ -15,10 +15,10 @@ pub fn tag_into<K: Authenticator>(
     message: &[u8],
     out: &mut [u8],
 ) -> Result<(), Refusal>
-    ensures key { key authenticator.new ≡ key authenticator.old }
+    ensures key { K.key authenticator.new ≡ K.key authenticator.old }
     ensures answer { MatchResult result (λ _. length out.old ≡ 32) (λ e. (e ≡ WrongLength) × (length out.old ≢ 32)) }
-    ensures state { MatchResult result (λ _. state authenticator.new ≡ means.begin (key authenticator.old)) (λ _. authenticator.new ≡ authenticator.old) }
-    ensures out { MatchResult result (λ _. out.new ≡ padded (tag means (key authenticator.old) (kind ∷ message.now))) (λ _. out.new ≡ out.old) }
+    ensures state { MatchResult result (λ _. K.state authenticator.new ≡ K.means.begin (K.key authenticator.old)) (λ _. authenticator.new ≡ authenticator.old) }
+    ensures out { MatchResult result (λ _. out.new ≡ padded (tag K.means (K.key authenticator.old) (kind ∷ message.now))) (λ _. out.new ≡ out.old) }
 {
     if out.len() != TAG_BUFFER {
         return Err(Refusal::WrongLength);

@@ -4,7 +4,6 @@ use lib.Bits.{bit_and}
 use Rattle.std.proofs.lemmas.Nat.{and_comm, and_mask}
 use Rattle.std.proofs.lemmas.List.{drop_more, drop_all}
 use Rattle.chip.specs.Chip.{rises, programmed, operations, worked, chip_cutting}
-use Rattle.store.specs.Bank.{Cutting}
 use Rattle.store.specs.Memory.{block_at, laid, filled}
 use Rattle.store.proofs.Blocks.{length-block}
 use Rattle.store.proofs.Residues.{length-filled}

@@ -1,7 +1,7 @@
 //! NOR flash: what is done to one block, operation by operation.
 
 ghost use Rattle.std.specs.Prelude.{◌≡◌, ◌≤◌, length};
-ghost use Rattle.chip.specs.Chip.{rises, programmed, operations as operationsOf, worked};
+ghost use Rattle.chip.specs.Chip.{rises, programmed, operations as operations_of, worked};
 ghost use Rattle.store.specs.Memory.{filled};
 
 use store::BLOCK_LEN;
@@ -24,14 +24,14 @@ pub(crate) fn must_erase(old: &[u8], new: &[u8]) -> bool
 
 /// How many operations a whole write takes.
 pub(crate) fn operations(erases: bool) -> usize
-    ensures { result ≡ operationsOf erases }
+    ensures { result ≡ operations_of erases }
 {
     if erases { 1 + BLOCK_LEN } else { BLOCK_LEN }
 }
 
 /// The first `count` operations of a write.
 pub(crate) fn work(part: &mut [u8], bytes: &[u8], erases: bool, count: usize)
-    requires { (length part.old ≡ 512) × ((length bytes.now ≡ 512) × (count ≤ operationsOf erases)) }
+    requires { (length part.old ≡ 512) × ((length bytes.now ≡ 512) × (count ≤ operations_of erases)) }
     ensures { part.new ≡ worked erases count part.old bytes.now }
 {
     if !erases {

@@ -3,7 +3,7 @@
 ghost use Rattle.std.specs.Prelude.{◌≡◌, ◌/◌, ◌<◌, ◌≤◌, true, length, None};
 ghost use Rattle.store.specs.Bank.{bank, meaning, awake, planned, Running, Storing};
 ghost use Rattle.store.specs.Calls.{Writing};
-ghost use Rattle.chip.specs.Chip.{rises, operations as operationsOf, worked, chip_cutting, chip_bank};
+ghost use Rattle.chip.specs.Chip.{rises, operations as operations_of, worked, chip_cutting, chip_bank};
 ghost use Rattle.store.specs.Medium.{woken};
 ghost use Rattle.store.specs.Memory.{block_at, laid, remainder};
 
@@ -96,7 +96,7 @@ fn erases_at(memory: &[u8], block: usize, bytes: &[u8]) -> bool
 
 /// The first `count` operations of a write into a block.
 fn work_at(memory: &mut [u8], block: usize, bytes: &[u8], erases: bool, count: usize)
-    requires { (block < length memory.old / 512) × ((length bytes.now ≡ 512) × (count ≤ operationsOf erases)) }
+    requires { (block < length memory.old / 512) × ((length bytes.now ≡ 512) × (count ≤ operations_of erases)) }
     ensures { memory.new ≡ laid memory.old block (worked erases count (block_at memory.old block) bytes.now) }
 {
     let from = BLOCK_LEN * block;

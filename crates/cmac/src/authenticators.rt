@@ -8,7 +8,7 @@ ghost use Rattle.cmac.specs.Cmac.{cmac};
 ghost use Rattle.cmac.specs.Chains.{cmac_chaining};
 ghost use Rattle.cmac.specs.Keyed.{key_in, held_in};
 
-use crate::core::{CmacCore, TAG, keyed};
+use crate::algorithm::{CmacCore, TAG, keyed};
 use authenticator::{Authenticator, Feeder, TAG_BUFFER};
 use refusal::Refusal;
 

@@ -2,9 +2,9 @@
 
 #![tactic(auto)]
 
+mod algorithm;
 mod authenticators;
 mod blocks;
-mod core;
 mod keys;
 
 pub use authenticators::{Cmac, cmac_into};

@@ -1,5 +1,5 @@
 -- Control blocks by their parts: what is held with its fill, and the two bytes of the check.
-use Rattle.std.proofs.Common.{◌≡◌, ℕ, ◌+◌, ◌-◌, ◌/◌, ◌%◌, ◌<◌, ◌≤◌, min, Bool, true, false, List, [], ◌∷◌, ◌++◌, length, get_or, take, drop, set, replicate, Decides, sym, refl, ap, ◌∙◌, arith}
+use Rattle.std.proofs.Common.{◌≡◌, ℕ, ◌+◌, ◌-◌, ◌/◌, ◌%◌, ◌<◌, ◌≤◌, Bool, true, false, List, [], ◌∷◌, ◌++◌, length, get_or, take, drop, set, replicate, Decides, sym, refl, ap, ◌∙◌, arith}
 use borrow.Rule.Slice.PartMut.{put_mid}
 use Rattle.std.proofs.lemmas.List.{take-append-drop, length-take, length-drop, drop_more, drop_all, length-append, length-replicate, length-take-le, take_at, get_or_at, get_or-append_right, length-set, take-set, take-set-le, get_or-set_same, get_or-set_other, take-take, drop-take, ext_get_or, get_or-replicate, append_cancel_left}
 use Rattle.std.proofs.lemmas.Slice.{take-put_mid}

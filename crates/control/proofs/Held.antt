@@ -1,7 +1,7 @@
 -- What a control block holds.
-use Rattle.std.proofs.Common.{◌≡◌, ℕ, ◌+◌, ◌-◌, ◌*◌, ◌/◌, ◌%◌, ◌<◌, ◌≤◌, true, false, List, [], ◌∷◌, ◌++◌, length, get_or, take, drop, replicate, Some, None, Option, sym, refl, ap, ◌∙◌, ⊎_elim, arith}
+use Rattle.std.proofs.Common.{◌≡◌, ℕ, ◌+◌, ◌*◌, ◌/◌, ◌%◌, ◌<◌, ◌≤◌, List, [], ◌∷◌, ◌++◌, length, get_or, take, Some, None, Option, sym, refl, ap, ◌∙◌, ⊎_elim, arith}
 use Rattle.std.proofs.lemmas.Slice.Eq.{bytes_eq-Decides}
-use Rattle.std.proofs.lemmas.List.{length-append, get_or-take, take-append-le, take_at, take_more}
+use Rattle.std.proofs.lemmas.List.{get_or-take, take-append-le, take_at, take_more}
 use Rattle.std.proofs.lemmas.Bool.{cases_Bool, cond-true, cond-false}
 use Rattle.std.specs.Str.{bytes_eq}
 use Rattle.layout.specs.Address.{ermin, ermax}
@@ -11,7 +11,7 @@ use Rattle.layout.specs.Places.{Between}
 use Rattle.control.specs.declared.kind.Control.TheVariants as control
 use Rattle.control.specs.declared.kind.Flag.{Flag}
 use Rattle.control.specs.declared.kind.Flag.TheVariants.{Finished, Unfinished}
-use Rattle.control.specs.Blocks.{body, formed, two, flag_byte, flag_block, flag_in, pointer_to, Stands, Points}
+use Rattle.control.specs.Blocks.{body, formed, two, flag_block, flag_in, pointer_to, Stands, Points}
 use Rattle.control.specs.Calls.{Pointed}
 use Rattle.control.proofs.Formed.{length-body}
 

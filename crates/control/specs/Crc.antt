@@ -1,6 +1,6 @@
 -- The check of a control block: the CRC of 16 bits with the polynomial 1021 hex, from FFFF hex, the high bit of each
 -- byte first, and no change at the end.
-use Rattle.std.specs.Prelude.{ℕ, zero, suc, ◌*◌, ◌%◌, ◌^◌, cond, List, [], ◌∷◌, fold, bit_xor, nat_le}
+use Rattle.std.specs.Prelude.{ℕ, zero, suc, ◌*◌, ◌%◌, ◌^◌, cond, List, fold, bit_xor, nat_le}
 
 -- One bit on: the register moves up by one within its 16 bits, and where a one leaves it, the polynomial is added.
 abbrev pub shifted : ℕ → ℕ

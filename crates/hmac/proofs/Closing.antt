@@ -4,7 +4,6 @@ use native.Mathlib.Nat.{sub-zero}
 use Rattle.authenticator.specs.Meaning.{padded}
 use Rattle.authenticator.proofs.Padding.{padded-whole, take_min}
 use Rattle.sha256.specs.Hash.{finished}
-use Rattle.sha256.proofs.Blocks.{length-finished}
 use Rattle.hmac.specs.Chains.{Chains, Progress, hmac_chaining}
 
 pub closed : (k : Chains) (v : Progress) (block : List ℕ) (used n : ℕ) (inner r : List ℕ) → length block ≡ 64 → n ≡ min used 64

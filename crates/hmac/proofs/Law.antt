@@ -1,10 +1,10 @@
 -- The tag of the fed block algorithm is HMAC, for every message.
-use Rattle.std.proofs.Common.{◌≡◌, ℕ, zero, suc, ◌+◌, ◌-◌, ◌*◌, ◌/◌, ◌%◌, ◌^◌, ◌<◌, ◌≤◌, List, [], ◌++◌, length, take, drop, sym, refl, ap, ◌∙◌, arith, lit<, lit≤, length-append, length-drop}
+use Rattle.std.proofs.Common.{◌≡◌, ℕ, zero, suc, ◌+◌, ◌-◌, ◌*◌, ◌%◌, ◌^◌, ◌≤◌, List, [], ◌++◌, length, take, drop, sym, ap, ◌∙◌, arith, lit<, lit≤, length-append, length-drop}
 use native.Mathlib.Nat.{mod-add-mod, mul-div-le}
 use Rattle.authenticator.specs.Meaning.{tag, padded}
-use Rattle.authenticator.specs.Feeding.{Held, stepped, bytes, fed}
+use Rattle.authenticator.specs.Feeding.{Held, stepped, fed}
 use Rattle.authenticator.proofs.Padding.{padded-whole}
-use Rattle.authenticator.proofs.Views.{ahead, seen, bytes_seen}
+use Rattle.authenticator.proofs.Views.{ahead, bytes_seen}
 use Rattle.sha256.specs.Compression.{compressed}
 use Rattle.sha256.specs.Hash.{initial, chained, finished, sha256}
 use Rattle.sha256.proofs.Blocks.{finished_block, finished_blocks, length-sha256}

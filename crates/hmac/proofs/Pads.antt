@@ -1,5 +1,5 @@
 -- A key pad, formed byte by byte over a block that holds the mark everywhere.
-use Rattle.std.proofs.Common.{◌≡◌, ℕ, suc, ◌+◌, ◌-◌, ◌<◌, List, [], ◌∷◌, ◌++◌, map, length, get_or, take, set, replicate, sym, refl, ap, ◌∙◌, arith, length-append}
+use Rattle.std.proofs.Common.{◌≡◌, ℕ, suc, ◌+◌, ◌-◌, ◌<◌, List, [], ◌∷◌, ◌++◌, map, length, get_or, take, set, replicate, sym, ap, ◌∙◌, arith, length-append}
 use lib.Bits.{bit_xor}
 use lib.ListN.{length-replicate}
 use Rattle.std.proofs.lemmas.List.{length-map, map-set, set_at, take_more, take_all, append_assoc, length-take-le}

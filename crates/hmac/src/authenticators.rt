@@ -8,7 +8,7 @@ ghost use Rattle.hmac.specs.Hmac.{hmac};
 ghost use Rattle.hmac.specs.Chains.{chains_of, hmac_chaining};
 ghost use Rattle.hmac.specs.Keyed.{chains_in, held_in, Fits};
 
-use crate::core::{HmacCore, TAG};
+use crate::algorithm::{HmacCore, TAG};
 use crate::keys::{KEY, PADS, Wiped, chain};
 use authenticator::{Authenticator, Feeder};
 use refusal::Refusal;

@@ -2,8 +2,8 @@
 
 #![tactic(auto)]
 
+mod algorithm;
 mod authenticators;
-mod core;
 mod keys;
 
 pub use authenticators::{Hmac, hmac_into};

@@ -1,5 +1,5 @@
 -- Where an image may lie.
-use Rattle.std.specs.Prelude.{ℕ, ◌+◌, ◌<◌, ◌≤◌, min, ◌⊎◌}
+use Rattle.std.specs.Prelude.{ℕ, ◌+◌, ◌<◌, ◌≤◌, min}
 use Rattle.layout.specs.Address.{blocks_of}
 
 -- The end of the blocks of a store that images may lie in: its block count, or 112, where addresses end.
@@ -20,7 +20,7 @@ Fills first len b = (first ≤ b) × (b < first + blocks_of len)
 
 -- Two images share a block.
 abbrev pub Share : ℕ → ℕ → ℕ → ℕ → Type 0
-Share first len other otherLen = (b : ℕ) × Fills first len b × Fills other otherLen b
+Share first len other other_len = (b : ℕ) × Fills first len b × Fills other other_len b
 
 -- A version that may take the place of the running one.
 abbrev pub Newer : ℕ → ℕ → Type 0

@@ -40,10 +40,10 @@ impl Request {
         authenticator: &mut K,
         confirmation: &[u8],
     ) -> Result<(), Refusal>
-        ensures key { key authenticator.new ≡ key authenticator.old }
-        ensures answer { MatchResult result (λ _. confirmation.now ≡ confirmation_of means (key authenticator.old) self.version self.nonce) (λ e. Rejects means (key authenticator.old) self.version self.nonce confirmation.now e) }
-        ensures begun { length confirmation.now ≡ means.size → state authenticator.new ≡ means.begin (key authenticator.old) }
-        ensures kept { (length confirmation.now ≢ means.size) → authenticator.new ≡ authenticator.old }
+        ensures key { K.key authenticator.new ≡ K.key authenticator.old }
+        ensures answer { MatchResult result (λ _. confirmation.now ≡ confirmation_of K.means (K.key authenticator.old) self.version self.nonce) (λ e. Rejects K.means (K.key authenticator.old) self.version self.nonce confirmation.now e) }
+        ensures begun { length confirmation.now ≡ K.means.size → K.state authenticator.new ≡ K.means.begin (K.key authenticator.old) }
+        ensures kept { (length confirmation.now ≢ K.means.size) → authenticator.new ≡ authenticator.old }
     {
         let Request { nonce, version } = self;
         if confirmation.len() != K::tag_len() {

@@ -18,10 +18,10 @@ pub fn token<K: Authenticator>(
     image: &[u8],
     out: &mut [u8],
 ) -> Result<(), Refusal>
-    ensures key { key authenticator.new ≡ key authenticator.old }
+    ensures key { K.key authenticator.new ≡ K.key authenticator.old }
     ensures answer { MatchResult result (λ _. (length out.old ≡ 32) × IsImage image.now) (λ e. Refuses out.old image.now e) }
-    ensures state { MatchResult result (λ _. state authenticator.new ≡ means.begin (key authenticator.old)) (λ _. authenticator.new ≡ authenticator.old) }
-    ensures out { MatchResult result (λ _. out.new ≡ padded (token_of means (key authenticator.old) image.now)) (λ _. out.new ≡ out.old) }
+    ensures state { MatchResult result (λ _. K.state authenticator.new ≡ K.means.begin (K.key authenticator.old)) (λ _. authenticator.new ≡ authenticator.old) }
+    ensures out { MatchResult result (λ _. out.new ≡ padded (token_of K.means (K.key authenticator.old) image.now)) (λ _. out.new ≡ out.old) }
 {
     if out.len() != TAG_BUFFER {
         return Err(Refusal::WrongLength);

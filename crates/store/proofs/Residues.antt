@@ -5,7 +5,6 @@ use Rattle.store.specs.declared.plain.CutPlan.{CutPlan}
 use Rattle.store.specs.declared.plain.Residue.{Residue}
 use Rattle.store.specs.declared.plain.Residue.TheVariants.{Old, New, Repeated}
 use Rattle.store.specs.Memory.{filled}
-use Rattle.store.specs.Bank.{Cutting}
 use Rattle.store.specs.Plain.{residue_of, plain_cutting}
 
 -- a filled block has 512 bytes

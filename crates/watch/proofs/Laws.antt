@@ -1,6 +1,6 @@
 -- What the rules keep over a run.
-use Rattle.std.proofs.Common.{◌≡◌, ℕ, ◌<◌, ◌≤◌, Bool, true, false, ◌⊎◌, List, [], ◌∷◌, ◌++◌, take, Some, None, Option, sym, refl, ap, ◌∙◌, subst, inl, inr, ⊎_elim, arith}
-use Rattle.std.specs.List.{AllByRecursion as All}
+use Rattle.std.proofs.Common.{◌≡◌, ℕ, false, ◌⊎◌, List, [], ◌∷◌, ◌++◌, take, Some, None, Option, refl, inl, inr, ⊎_elim, arith}
+use Rattle.std.specs.List.{AllByRecursion}
 use Rattle.std.proofs.lemmas.Bool.{cases_lt, cases_eq, cases_Bool}
 use Rattle.layout.specs.Address.{InTcr, ermin, ermax}
 use Rattle.layout.specs.declared.place.Place.{Place}
@@ -10,7 +10,7 @@ use Rattle.watch.specs.declared.cycle.Verdict.{Verdict}
 use Rattle.watch.specs.declared.cycle.Verdict.TheVariants as verdict
 use Rattle.watch.specs.declared.cycle.Watch.{Watch}
 use Rattle.watch.specs.declared.cycle.Watch.TheVariants.{Outside, Inside, Last, Reset}
-use Rattle.watch.specs.Rules.{Out, Writes, W1, W2, W3, W4, W5, Broken, Stopped, Follows, Judges, Steps}
+use Rattle.watch.specs.Rules.{Out, Writes, Broken, Stopped, Follows, Judges, Steps}
 use Rattle.watch.specs.Runs.{Answered, state_after, counted, passes, First, EachNext, Kept}
 
 -- a cycle that passes breaks no rule, in any state
@@ -71,13 +71,13 @@ left_one running Reset a b f not in' out = absurd f
 -- whole runs: what each passing cycle has, all leading passes have
 all_step : (running : Option Place) (P : Cycle → Type 0) (c : Cycle) (n : ℕ) (cycles : List Cycle) (state : Watch) (v : Verdict) (next : Watch)
     → ((q : Watch) → (Broken running q c → ⊥) → P c) → Judges running state c v next
-    → All P (take n cycles) → All P (take (counted v n) (c ∷ cycles))
+    → AllByRecursion P (take n cycles) → AllByRecursion P (take (counted v n) (c ∷ cycles))
 all_step running P c n cycles state verdict.Pass next one j rest = (one state (unbroken running state c j.0), rest)
 all_step running P c n cycles state verdict.Reset next one j rest = tt
 
 pub all_passed : (running : Option Place) (P : Cycle → Type 0) → ((q : Watch) (c : Cycle) → (Broken running q c → ⊥) → P c)
     → (state : Watch) (cycles : List Cycle) (answers : List (Verdict × Watch)) → Answered running state cycles answers
-    → All P (take (passes answers) cycles)
+    → AllByRecursion P (take (passes answers) cycles)
 all_passed running P one state [] [] h = tt
 all_passed running P one state [] (a ∷ answers) h = absurd h
 all_passed running P one state (c ∷ cycles) [] h = absurd h

@@ -1,6 +1,6 @@
 -- Runs of the watch: what becomes of many cycles, one after the other, from reset on.
-use Rattle.std.specs.Prelude.{◌≡◌, ℕ, suc, true, false, ◌⊎◌, List, [], ◌∷◌, Option}
-use Rattle.std.specs.List.{AllByRecursion as All}
+use Rattle.std.specs.Prelude.{◌≡◌, ℕ, suc, false, ◌⊎◌, List, [], ◌∷◌, Option}
+use Rattle.std.specs.List.{AllByRecursion}
 use Rattle.layout.specs.Address.{InTcr}
 use Rattle.layout.specs.declared.place.Place.{Place}
 use Rattle.layout.specs.Running.{Executable, Guarded}
@@ -50,13 +50,13 @@ EachNext R (a ∷ cycles) = First (λ b. R a b) cycles × EachNext R cycles
 -- What the watch is for: in the cycles that pass from reset on,
 pub record Kept (running : Option Place) (passed : List Cycle) : Type 0 where
   -- no guarded address is written from outside TCR, by the core or by DMA,
-  pub unwritten : All (λ c. Out c → (address : ℕ) → Writes c address → Guarded running address → ⊥) passed
+  pub unwritten : AllByRecursion (λ c. Out c → (address : ℕ) → Writes c address → Guarded running address → ⊥) passed
   -- TCR is entered at 0 only, in the first cycle and from outside,
   pub begun : First (λ c. c.pc ≡ 0) passed
   pub entered : EachNext (λ a b. Out a → InTcr b.pc → b.pc ≡ 0) passed
   -- it is left from 2047 only,
   pub left : EachNext (λ a b. InTcr a.pc → Out b → a.pc ≡ 2047) passed
   -- there is neither an interrupt nor DMA in it,
-  pub quiet : All (λ c. InTcr c.pc → (c.interrupt ≡ false) × (c.dma ≡ false)) passed
+  pub quiet : AllByRecursion (λ c. InTcr c.pc → (c.interrupt ≡ false) × (c.dma ≡ false)) passed
   -- and outside it nothing is executed but the running image.
-  pub executed : All (λ c. InTcr c.pc ⊎ Executable running c.pc) passed
+  pub executed : AllByRecursion (λ c. InTcr c.pc ⊎ Executable running c.pc) passed

@@ -6,8 +6,8 @@ pub returns : goal.returns
 returns c =
     let x = c.args in
     mixed_sum c.mix.result c.mix-2.result c.mix-3.result c.mix-4.result _ _ _
-    (entry c.mix.result (x.a / 2 ^ 24) (x.a / 2 ^ 24 % 256) c.mix.type-inv c.mix.ensures (omega arith) (omega arith))
-    (entry c.mix-2.result (x.b / 2 ^ 16 % 256) (x.b / 2 ^ 16 % 256) c.mix-2.type-inv c.mix-2.ensures refl (omega arith))
-    (entry c.mix-3.result (x.c / 2 ^ 8 % 256) (x.c / 2 ^ 8 % 256) c.mix-3.type-inv c.mix-3.ensures refl (omega arith))
-    (entry c.mix-4.result (x.d % 256) (x.d % 256) c.mix-4.type-inv c.mix-4.ensures refl (omega arith))
-    c.rotate-right.ensures c.rotate-right-2.ensures c.rotate-right-3.ensures
+    (entry c.mix.result (x.a / 2 ^ 24) (x.a / 2 ^ 24 % 256) c.mix.type_inv c.mix.ensures (omega arith) (omega arith))
+    (entry c.mix-2.result (x.b / 2 ^ 16 % 256) (x.b / 2 ^ 16 % 256) c.mix-2.type_inv c.mix-2.ensures refl (omega arith))
+    (entry c.mix-3.result (x.c / 2 ^ 8 % 256) (x.c / 2 ^ 8 % 256) c.mix-3.type_inv c.mix-3.ensures refl (omega arith))
+    (entry c.mix-4.result (x.d % 256) (x.d % 256) c.mix-4.type_inv c.mix-4.ensures refl (omega arith))
+    c.rotate_right.ensures c.rotate_right-2.ensures c.rotate_right-3.ensures

@@ -5,4 +5,4 @@ use Rattle.aes.proofs.columns.sub_shift.Goals as goal
 
 pub returns : goal.returns
 unfolding columns shift_rows sub_bytes
-returns c = by_columns _ _ _ _ c.sub-column.ensures c.sub-column-2.ensures c.sub-column-3.ensures c.sub-column-4.ensures
+returns c = by_columns _ _ _ _ c.sub_column.ensures c.sub_column-2.ensures c.sub_column-3.ensures c.sub_column-4.ensures

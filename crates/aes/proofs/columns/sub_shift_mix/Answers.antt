@@ -5,4 +5,4 @@ use Rattle.aes.proofs.columns.sub_shift_mix.Goals as goal
 
 pub returns : goal.returns
 unfolding columns mix_columns shift_rows sub_bytes
-returns c = by_columns _ _ _ _ c.mix-column.ensures c.mix-column-2.ensures c.mix-column-3.ensures c.mix-column-4.ensures
+returns c = by_columns _ _ _ _ c.mix_column.ensures c.mix_column-2.ensures c.mix_column-3.ensures c.mix_column-4.ensures

@@ -1,4 +1,4 @@
-use Rattle.std.proofs.Common.{◌≡◌, [], ◌∷◌, sym, ap, ◌∙◌}
+use Rattle.std.proofs.Common.{◌≡◌, [], ◌∷◌, ap, ◌∙◌}
 use Rattle.authenticator.specs.Meaning.{tag, padded}
 use Rattle.authenticator.proofs.Answered.{only_ok}
 use Rattle.authenticator.proofs.tags.tag_into.Goals as goal
@@ -16,6 +16,6 @@ returns g c =
     record {
       key = c.close.ensures.key ∙ keyed;
       answer = c.close.ensures.answer;
-      state = only_ok _ _ _ _ _ _ _ c.close.ensures.answer c.if-out-ne-TAG-BUFFER.false c.close.ensures.closed (λ _ e. e ∙ ap M.begin keyed);
-      out = only_ok _ _ _ _ _ _ _ c.close.ensures.answer c.if-out-ne-TAG-BUFFER.false c.close.ensures.out (λ _ e. e ∙ ap padded tagged);
+      state = only_ok _ _ _ _ _ _ _ c.close.ensures.answer c.if-out-ne-TAG_BUFFER.false c.close.ensures.closed (λ _ e. e ∙ ap M.begin keyed);
+      out = only_ok _ _ _ _ _ _ _ c.close.ensures.answer c.if-out-ne-TAG_BUFFER.false c.close.ensures.out (λ _ e. e ∙ ap padded tagged);
     }

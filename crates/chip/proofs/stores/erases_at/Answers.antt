@@ -6,4 +6,4 @@ pub returns : goal.returns
 returns c =
     let from = 512 * c.args.block in
     let long : (from + 512) - from ≡ 512 = omega arith in
-    c.must-erase.ensures ∙ ap (λ n. rises (take n (drop from c.args.memory.now)) c.args.bytes.now) long
+    c.must_erase.ensures ∙ ap (λ n. rises (take n (drop from c.args.memory.now)) c.args.bytes.now) long

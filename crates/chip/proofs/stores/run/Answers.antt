@@ -10,6 +10,6 @@ returns-else-plan-needed c =
     let memory = c.args.memory.now in
     let bytes = c.args.bytes.now in
     let plan = c.in-Some.plan in
-    running_cut chip_cutting memory c.args.block bytes _ c.work-at.new.memory c.args.plan plan c.in-Some.is
-    (chip_cuts plan c.operations-needed.result c.erases-at-erases.result (block_at memory c.args.block) bytes c.erases-at-erases.ensures c.operations-needed.ensures (omega arith))
-    c.work-at.ensures
+    running_cut chip_cutting memory c.args.block bytes _ c.work_at.new.memory c.args.plan plan c.in-Some.is
+    (chip_cuts plan c.operations-needed.result c.erases_at-erases.result (block_at memory c.args.block) bytes c.erases_at-erases.ensures c.operations-needed.ensures (omega arith))
+    c.work_at.ensures

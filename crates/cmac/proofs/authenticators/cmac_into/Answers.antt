@@ -5,8 +5,8 @@ use Rattle.cmac.proofs.authenticators.cmac_into.Goals as goal
 
 pub returns : goal.returns
 returns c =
-    let made = c.in-ok-authenticator.ensures in
-    let a = c.in-ok-authenticator.authenticator in
+    let made = c.in_ok-authenticator.ensures in
+    let a = c.in_ok-authenticator.authenticator in
     let fed = c.feed.new.self in
     record {
       answer = MatchResult-weaker c.close.result c.close.ensures.answer (λ _ e. (e, made.answer)) (λ _ e. (e.0, λ all. e.1 all.0));

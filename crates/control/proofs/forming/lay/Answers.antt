@@ -5,5 +5,5 @@ use Rattle.control.proofs.forming.lay.Goals as goal
 
 pub returns : goal.returns
 returns c =
-    laid c.args.held.now c.copy-from-slice.new.self _ c.clear.new.bytes c.copy-from-slice.ensures.after
+    laid c.args.held.now c.copy_from_slice.new.self _ c.clear.new.bytes c.copy_from_slice.ensures.after
     (omega arith) (simp (length-append, length-drop) (omega arith)) c.clear.ensures

@@ -3,4 +3,4 @@ use Rattle.planner.proofs.Tags.{listed}
 use Rattle.planner.proofs.requests.message.Goals as goal
 
 pub returns : goal.returns
-returns c = listed c.to-le-bytes.result c.args.nonce (c.args.version % 256) (c.args.version / 256 % 256) c.to-le-bytes.ensures (omega arith)
+returns c = listed c.to_le_bytes.result c.args.nonce (c.args.version % 256) (c.args.version / 256 % 256) c.to_le_bytes.ensures (omega arith)

@@ -10,7 +10,7 @@ loop-i-init c = (refl, refl)
 
 pub loop-i-preserved : goal.loop-i-preserved
 loop-i-preserved c =
-    (search (rules, places), digest_more c.loop-i.i _ c.args.state _ c.copy-from-slice.new.self (search rules) (search rules) (search rules) c.loop-i.invariant.1)
+    (search (rules, places), digest_more c.loop-i.i _ c.args.state _ c.copy_from_slice.new.self (search rules) (search rules) (search rules) c.loop-i.invariant.1)
 
 pub returns : goal.returns
 returns c = search (rules, take_all)

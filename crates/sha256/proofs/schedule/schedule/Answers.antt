@@ -9,7 +9,7 @@ unfolding schedule
 loop-t-init c = (refl, refl)
 
 pub loop-t-preserved : goal.loop-t-preserved
-loop-t-preserved c = scheduled_loaded _ _ _ _ (search rules) c.loaded-word.ensures c.loop-t.invariant
+loop-t-preserved c = scheduled_loaded _ _ _ _ (search rules) c.loaded_word.ensures c.loop-t.invariant
 
 pub returns : goal.returns
 returns c = search (rules, take_all)

@@ -4,14 +4,14 @@ use Rattle.store.proofs.Blocks.{held_block}
 use Rattle.store.proofs.Lowest.{ready, refused}
 use Rattle.store.proofs.memory.read_from.Goals as goal
 
-pub returns-in-err-admit : goal.returns-in-err-admit
-returns-in-err-admit c =
-    let p = err_from_is_err_and c.from-residual.result c.from-residual.ensures.1 in
-    rw (p.1, p.2) (refused c.args.memory.now c.args.live c.args.block (length c.args.buffer.now) _ c.in-err-admit.ensures, refl)
+pub returns-in_err-admit : goal.returns-in_err-admit
+returns-in_err-admit c =
+    let p = err_from_is_err_and c.from_residual.result c.from_residual.ensures.1 in
+    rw (p.1, p.2) (refused c.args.memory.now c.args.live c.args.block (length c.args.buffer.now) _ c.in_err-admit.ensures, refl)
 
 pub returns : goal.returns
 returns c =
-    let q = c.in-ok-admit.ensures in (
+    let q = c.in_ok-admit.ensures in (
       ready c.args.memory.now c.args.live c.args.block (length c.args.buffer.now) q,
       c.fetch.ensures ∙ sym (held_block c.args.memory.now c.args.block [] q.0.1),
     )

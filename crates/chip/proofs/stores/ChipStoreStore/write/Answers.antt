@@ -7,7 +7,7 @@ pub returns : goal.returns
 returns c =
     let s = chip_bank c.args.self.now in
     let t = chip_bank c.put.new.self in
-    let own = c.put.ensures.own_val in
+    let own = c.put.ensures.own in
     record {
       written = writing chip_cutting chip_sized s t c.args.block c.args.bytes.now c.put.result own;
       own = own;

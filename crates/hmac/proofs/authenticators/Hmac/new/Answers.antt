@@ -1,4 +1,4 @@
-use Rattle.std.proofs.Common.{◌≡◌, ℕ, List, sym, ap, ◌∙◌, rules}
+use Rattle.std.proofs.Common.{◌≡◌, sym, ap, ◌∙◌, rules}
 use Rattle.authenticator.specs.Meaning.{tag}
 use Rattle.authenticator.specs.Feeding.{fed}
 use Rattle.hmac.specs.Chains.{Chains, chains_of, hmac_chaining}

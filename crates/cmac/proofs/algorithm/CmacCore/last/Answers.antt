@@ -1,7 +1,7 @@
 use Rattle.std.proofs.Common.{arith}
 use Rattle.aes.specs.Keys.{key_of}
 use Rattle.cmac.proofs.Last.{last_part, last_whole}
-use Rattle.cmac.proofs.core.CmacCore.last.Goals as goal
+use Rattle.cmac.proofs.algorithm.CmacCore.last.Goals as goal
 
 pub returns-then-used-lt-BLOCK : goal.returns-then-used-lt-BLOCK
 returns-then-used-lt-BLOCK c =

@@ -1,5 +1,5 @@
 use Rattle.hmac.proofs.Closing.{closed}
-use Rattle.hmac.proofs.core.HmacCoreBlockCore64.finish.Goals as goal
+use Rattle.hmac.proofs.algorithm.HmacCoreBlockCore64.finish.Goals as goal
 
 pub returns : goal.returns
 returns c =
