@@ -1,6 +1,6 @@
 /* AES-CMAC of one part of 50,000 bytes: the proved library beside a plain table-driven C version, best of many runs in turn.
- *   rt staticlib bench_c
- *   gcc -O2 -o target/cmac measure/cmac.c target/staticlib/libbench_c.a "$(dirname "$(rt doc)")/../lib/librattle_c.a" && target/cmac
+ *   (cd crates/bench_c && rt lib)
+ *   gcc -O2 -o crates/bench_c/out/cmac measure/cmac.c crates/bench_c/out/libbench_c.a && crates/bench_c/out/cmac
  */
 #include <stdint.h>
 #include <stdio.h>

@@ -1,6 +1,6 @@
 /* HMAC-SHA-256 of one part of 50,000 bytes: the proved library beside a plain C version, best of many runs in turn.
- *   rt staticlib bench_c
- *   gcc -O2 -o target/hmac measure/hmac.c target/staticlib/libbench_c.a "$(dirname "$(rt doc)")/../lib/librattle_c.a" && target/hmac
+ *   (cd crates/bench_c && rt lib)
+ *   gcc -O2 -o crates/bench_c/out/hmac measure/hmac.c crates/bench_c/out/libbench_c.a && crates/bench_c/out/hmac
  */
 #include <stdint.h>
 #include <stdio.h>

@@ -1,5 +1,5 @@
 -- A text that grew piece by piece.
-use Rattle.std.proofs.Common.{◌≡◌, ℕ, List, ◌++◌, refl, ap, ◌∙◌, append_assoc}
+use Rattle.std.proofs.Common.{◌≡◌, ℕ, List, ◌++◌, ◌∙◌, append_assoc}
 
 pub eight_pieces : (t₀ t₁ t₂ t₃ t₄ t₅ t₆ t₇ t₈ front a b c d e f g h : List ℕ) → t₀ ≡ front → t₁ ≡ t₀ ++ a → t₂ ≡ t₁ ++ b
     → t₃ ≡ t₂ ++ c → t₄ ≡ t₃ ++ d → t₅ ≡ t₄ ++ e → t₆ ≡ t₅ ++ f → t₇ ≡ t₆ ++ g → t₈ ≡ t₇ ++ h

@@ -10,7 +10,6 @@ use Rattle.hmac.proofs.Law.{length-hmac}
 use Rattle.commands.specs.declared.key.KeyFault.{KeyFault}
 use Rattle.commands.specs.declared.kinds.Kind.{Kind}
 use Rattle.commands.specs.declared.kinds.Kind.TheVariants.{Hmac, Cmac}
-use Rattle.commands.specs.declared.tags.Fault.{Fault}
 use Rattle.commands.specs.Kind.{tag_length, tag_of}
 use Rattle.commands.specs.Report.{token_text, Reports}
 use Rattle.commands.specs.Token.{Tells}

@@ -83,7 +83,7 @@ fn token_by<K: Authenticator>(
     authenticator: &mut K,
     image: &[u8],
 ) -> Result<[u8; TAG_BUFFER], Fault>
-    ensures { MatchResult result (λ t. IsImage image.now × (t ≡ padded (token_of means (key authenticator.old) image.now))) (λ f. (IsImage image.now → ⊥) × (f ≡ Refused BadImage)) }
+    ensures { MatchResult result (λ t. IsImage image.now × (t ≡ padded (token_of K.means (K.key authenticator.old) image.now))) (λ f. (IsImage image.now → ⊥) × (f ≡ Refused BadImage)) }
 {
     let mut out = [0; TAG_BUFFER];
     token(authenticator, image, &mut out)?;

@@ -8,5 +8,5 @@ empty_line : (text : List ℕ) → length text < 1 → text ≡ line text
 empty_line [] h = refl
 empty_line (x ∷ xs) h = absurd (omega arith)
 
-pub returns-in-default : goal.returns-in-default
-returns-in-default c = empty_line _ (grind (arith, nat_tests))
+pub returns-in_default : goal.returns-in_default
+returns-in_default c = empty_line _ (grind (arith, nat_tests))

@@ -6,9 +6,9 @@ use Rattle.commands.proofs.reports.token_text.Goals as goal
 pub returns : goal.returns
 unfolding token_text
 returns c =
-    eight_pieces _ _ _ _ _ _ _ _ _ _ _ _ _ _ _ _ _ _ c.in-ok-text.ensures.ok
-    c.in-ok-push-hex.ensures.bytes c.in-ok-push-str.ensures.bytes
-    c.in-ok-push-hex-2.ensures.bytes c.in-ok-push-str-2.ensures.bytes
-    (c.in-ok-push-str-3.ensures.bytes ∙ ap (λ n. string_bytes c.push-str-2.new.self ++ n) c.name.ensures)
-    c.in-ok-push-str-4.ensures.bytes
-    c.in-ok-push-hex-3.ensures.bytes c.in-ok-push-str-5.ensures.bytes
+    eight_pieces _ _ _ _ _ _ _ _ _ _ _ _ _ _ _ _ _ _ c.in_ok-text.ensures.ok
+    c.in_ok-push_hex.ensures.bytes c.in_ok-push_str.ensures.bytes
+    c.in_ok-push_hex-2.ensures.bytes c.in_ok-push_str-2.ensures.bytes
+    (c.in_ok-push_str-3.ensures.bytes ∙ ap (λ n. string_bytes c.push_str-2.new.self ++ n) c.name.ensures)
+    c.in_ok-push_str-4.ensures.bytes
+    c.in_ok-push_hex-3.ensures.bytes c.in_ok-push_str-5.ensures.bytes
