@@ -1,8 +1,8 @@
 -- An image in a store, read block by block or byte by byte.
-use Rattle.std.proofs.Common.{◌≡◌, ℕ, suc, ◌+◌, ◌-◌, ◌*◌, ◌/◌, ◌%◌, ◌<◌, ◌≤◌, min, List, [], ◌∷◌, ◌++◌, length, get_or, take, drop, sym, refl, ap, ◌∙◌, ap₂, arith}
+use Rattle.std.proofs.Common.{◌≡◌, ℕ, suc, ◌+◌, ◌-◌, ◌*◌, ◌/◌, ◌%◌, ◌<◌, ◌≤◌, List, [], ◌∷◌, ◌++◌, length, get_or, take, drop, sym, refl, ap, ◌∙◌, ap₂, arith}
 use native.Mathlib.Decide.{dec_le}
 use lib.Seq.{take-append-add}
-use Rattle.std.specs.List.{flat_map, AllByRecursion as All}
+use Rattle.std.specs.List.{flat_map, AllByRecursion}
 use Rattle.std.proofs.lemmas.List.{length-take, length-drop, length-append, get_or-take, get_or-drop, get_or_append_left, get_or-append_right, take-append-drop, take-append-le, drop_more, drop-drop, take_all, append_assoc}
 use Rattle.std.proofs.lemmas.List.FromFn.{fill_by_all}
 use Rattle.std.proofs.ByRecursion.{All-take, All-drop}
@@ -12,7 +12,7 @@ use Rattle.layout.specs.Image.{version_of, nonce_of, vectors_of}
 use Rattle.board.specs.Stored.{image_at}
 
 abbrev Sized : List (List ℕ) → Type 0
-Sized bs = All (λ (b : List ℕ). length b ≡ 512) bs
+Sized bs = AllByRecursion (λ (b : List ℕ). length b ≡ 512) bs
 
 abbrev whole : List (List ℕ) → List ℕ
 whole bs = flat_map (λ (c : List ℕ). c) bs

@@ -1,5 +1,5 @@
 -- An install, from its writes and from what is left of the buffers.
-use Rattle.std.proofs.Common.{◌≡◌, ℕ, ◌⊎◌, List, Ok, Err, sym, refl, ap, ◌∙◌, subst, inl, inr}
+use Rattle.std.proofs.Common.{◌≡◌, ℕ, List, Ok, Err, sym, subst, inr}
 use Rattle.authenticator.specs.Meaning.{Meaning, padded}
 use Rattle.planner.specs.Confirmation.{confirmation_of}
 use Rattle.store.specs.Medium.{Medium}

@@ -1,5 +1,5 @@
 -- The pages of an image, as they are laid and written.
-use Rattle.std.proofs.Common.{◌≡◌, ℕ, zero, suc, ◌+◌, ◌-◌, ◌*◌, ◌<◌, ◌≤◌, min, List, [], ◌∷◌, ◌++◌, length, take, drop, replicate, Ok, Err, Result, sym, refl, ap, ◌∙◌, subst, ap₂, inl, inr, arith}
+use Rattle.std.proofs.Common.{◌≡◌, ℕ, zero, suc, ◌+◌, ◌-◌, ◌*◌, ◌<◌, ◌≤◌, min, List, [], ◌∷◌, ◌++◌, length, take, drop, replicate, Ok, Err, Result, sym, refl, ap, ◌∙◌, subst, ap₂, inr, arith}
 use native.Mathlib.Decide.{dec_le}
 use native.Mathlib.Nat.{sub-zero, sub_self}
 use Rattle.std.proofs.lemmas.List.{length-take, length-drop, take_all, drop-replicate, drop-drop}

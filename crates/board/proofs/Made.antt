@@ -1,6 +1,5 @@
 -- Planned writes that were made, from a row of writes.
-use Rattle.std.proofs.Common.{◌≡◌, ℕ, suc, true, ◌⊎◌, List, [], ◌∷◌, Ok, Err, Result, sym, refl, subst, inl, inr}
-use Rattle.store.specs.Calls.{Writing}
+use Rattle.std.proofs.Common.{ℕ, suc, true, List, [], ◌∷◌, Ok, Err, Result, sym, refl, subst, inl, inr}
 use Rattle.store.specs.Medium.{Medium, held, after}
 use Rattle.board.specs.declared.answers.Supply.{Supply}
 use Rattle.board.specs.declared.answers.Answer.{Answer}
@@ -8,7 +7,7 @@ use Rattle.board.specs.declared.answers.Answer.TheVariants as answer
 use Rattle.board.specs.States.{Board, cold}
 use Rattle.board.specs.Results.{outcome}
 use Rattle.board.specs.Rows.{Row}
-use Rattle.board.specs.Tests.{Outcome, Written}
+use Rattle.board.specs.Tests.{Written}
 use Rattle.board.specs.Writes.{Put, Write, cut, done, Makes, all, next, stop}
 
 -- a row tells the writes

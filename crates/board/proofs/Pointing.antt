@@ -1,5 +1,5 @@
 -- Legal pointers.
-use Rattle.std.proofs.Common.{◌≡◌, ℕ, ◌+◌, ◌*◌, ◌≤◌, List, [], length, get_or, sym, refl, ap, ◌∙◌, arith}
+use Rattle.std.proofs.Common.{◌≡◌, ℕ, ◌+◌, ◌*◌, ◌≤◌, List, length, sym, ap, ◌∙◌, arith}
 use Rattle.layout.specs.Header.{header_of}
 use Rattle.layout.specs.Image.{length_of, version_of}
 use Rattle.layout.specs.declared.header.Header.{Header}

@@ -158,12 +158,12 @@ module _ (m : Medium) (mark : Bool) (at byte : ℕ) (rest : List Poke) where
           still w more (inr q) = inr (q.0, stopped (w ∷ []) more 1 m s e q.1)
 
 -- the bytes of a cycle that passed
-pub pokes_done : (plan : List Put) (m : Medium) (board : Board) (e : Medium) → ReadRow 1 plan m (Ok tt) e
-    → (ws : List Write) × Pokes m plan board (outcome ws answer.Passes board e)
+pub pokes_done : (puts : List Put) (m : Medium) (board : Board) (e : Medium) → ReadRow 1 puts m (Ok tt) e
+    → (ws : List Write) × Pokes m puts board (outcome ws answer.Passes board e)
 pokes_done [] m board e p = ([], ap (λ (x : Medium). outcome [] answer.Passes board x) p.1)
-pokes_done (q ∷ plan) m board e (inl p) = absurd (differ tt (unread m q.block) p.1)
-pokes_done (q ∷ plan) m board e (inr p) =
-    let w = all_done (q ∷ plan) m answer.Passes board e p.1 in (w.0, inr (p.0, w.1))
+pokes_done (q ∷ puts) m board e (inl p) = absurd (differ tt (unread m q.block) p.1)
+pokes_done (q ∷ puts) m board e (inr p) =
+    let w = all_done (q ∷ puts) m answer.Passes board e p.1 in (w.0, inr (p.0, w.1))
 
 pub pokes_cut : (plan : List Put) (m : Medium) (board : Board) (s : Supply) (e : Medium) → ReadRow 1 plan m (Err s) e
     → (ws : List Write) × Pokes m plan board (outcome ws (answer.Supply s) cold e)
@@ -179,20 +179,20 @@ pub at_most_two : (m : Medium) (mark : Bool) (at byte k : ℕ) → k ≡ 1 + len
 at_most_two m mark at byte k e = omega (arith, at_most_one m.blocks mark at byte)
 
 -- a cycle, from its verdict and its bytes
-module _ (r : Running) (m : Medium) (c : Cycle) (byte dmaByte : ℕ) (scratch : List ℕ) (right : IsScratch scratch) (out : InTcr c.pc → ⊥) where
+module _ (r : Running) (m : Medium) (c : Cycle) (byte dma_byte : ℕ) (scratch : List ℕ) (right : IsScratch scratch) (out : InTcr c.pc → ⊥) where
   pub judged_reset : W1 (Some r.place) c ⊎ W2 (Some r.place) c
-      → (ws : List Write) × Cycles r m c byte dmaByte scratch (outcome ws answer.Resets cold m) (cleared scratch)
+      → (ws : List Write) × Cycles r m c byte dma_byte scratch (outcome ws answer.Resets cold m) (cleared scratch)
   judged_reset broken = ([], record { outcome = inr (right, inr (out, inl (broken, refl))); scratch_left = refl })
 
   module _ (kept : W1 (Some r.place) c ⊎ W2 (Some r.place) c → ⊥) (e : Medium) where
-    pub judged_done : ReadRow 1 (poking m.blocks (pokes_of c byte dmaByte)) m (Ok tt) e
-        → (ws : List Write) × Cycles r m c byte dmaByte scratch (outcome ws answer.Passes (running r) e) (cleared scratch)
+    pub judged_done : ReadRow 1 (poking m.blocks (pokes_of c byte dma_byte)) m (Ok tt) e
+        → (ws : List Write) × Cycles r m c byte dma_byte scratch (outcome ws answer.Passes (running r) e) (cleared scratch)
     judged_done row =
-        let w = pokes_done (poking m.blocks (pokes_of c byte dmaByte)) m (running r) e row in
+        let w = pokes_done (poking m.blocks (pokes_of c byte dma_byte)) m (running r) e row in
         (w.0, record { outcome = inr (right, inr (out, inr (λ a. kept (inl a), λ b. kept (inr b), w.1))); scratch_left = refl })
 
-    pub judged_cut : (s : Supply) → ReadRow 1 (poking m.blocks (pokes_of c byte dmaByte)) m (Err s) e
-        → (ws : List Write) × Cycles r m c byte dmaByte scratch (outcome ws (answer.Supply s) cold e) (cleared scratch)
+    pub judged_cut : (s : Supply) → ReadRow 1 (poking m.blocks (pokes_of c byte dma_byte)) m (Err s) e
+        → (ws : List Write) × Cycles r m c byte dma_byte scratch (outcome ws (answer.Supply s) cold e) (cleared scratch)
     judged_cut s row =
-        let w = pokes_cut (poking m.blocks (pokes_of c byte dmaByte)) m (running r) s e row in
+        let w = pokes_cut (poking m.blocks (pokes_of c byte dma_byte)) m (running r) s e row in
         (w.0, record { outcome = inr (right, inr (out, inr (λ a. kept (inl a), λ b. kept (inr b), w.1))); scratch_left = refl })

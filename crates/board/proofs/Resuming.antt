@@ -1,5 +1,5 @@
 -- A start, from its parts.
-use Rattle.std.proofs.Common.{◌≡◌, ℕ, ◌≤◌, true, ◌⊎◌, List, length, Ok, Err, sym, refl, ap, ◌∙◌, subst, ap₂, inl, inr}
+use Rattle.std.proofs.Common.{◌≡◌, ℕ, ◌≤◌, true, List, length, Ok, Err, sym, refl, ap, ◌∙◌, subst, inl, inr}
 use Rattle.authenticator.specs.Meaning.{Meaning, padded}
 use Rattle.layout.specs.Image.{nonce_of, vectors_of}
 use Rattle.planner.specs.Confirmation.{confirmation_of}

@@ -1,5 +1,5 @@
 -- Rows of writes, joined.
-use Rattle.std.proofs.Common.{◌≡◌, ℕ, suc, ◌+◌, true, ◌⊎◌, List, [], ◌∷◌, ◌++◌, length, Ok, Err, Result, sym, refl, ap, ◌∙◌, subst, inl, inr, add-zero, add-suc, arith}
+use Rattle.std.proofs.Common.{◌≡◌, ℕ, suc, ◌+◌, true, List, [], ◌∷◌, ◌++◌, length, Ok, Err, Result, sym, ◌∙◌, subst, inl, inr, add-zero, arith}
 use Rattle.store.specs.Medium.{Medium, after}
 use Rattle.board.specs.declared.answers.Supply.{Supply}
 use Rattle.board.specs.Rows.{Row}

@@ -1,5 +1,5 @@
 -- A confirmation, fed in parts.
-use Rattle.std.proofs.Common.{◌≡◌, ℕ, ◌/◌, ◌%◌, List, [], ◌∷◌, sym, refl, ap, ◌∙◌}
+use Rattle.std.proofs.Common.{◌≡◌, ℕ, ◌/◌, ◌%◌, List, [], ◌∷◌, ap, ◌∙◌}
 use Rattle.authenticator.specs.Meaning.{Meaning, padded}
 use Rattle.planner.specs.Confirmation.{confirmation_of}
 

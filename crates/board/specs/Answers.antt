@@ -1,5 +1,5 @@
 -- What an answer leaves of the lent buffers and of the authenticator.
-use Rattle.std.specs.Prelude.{◌≡◌, ℕ, cond, List, [], length, replicate, ◌==◌}
+use Rattle.std.specs.Prelude.{ℕ, cond, List, length, replicate, ◌==◌}
 use Rattle.refusal.specs.declared.Refusal.{Refusal}
 use Rattle.refusal.specs.Numbers.{number_of}
 use Rattle.authenticator.specs.Meaning.{padded}

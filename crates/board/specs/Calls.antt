@@ -1,9 +1,9 @@
 -- What each call means. A call reads top to bottom as its rule does: the tests in their order, what it reads, the writes
 -- that it makes, and what it answers.
-use Rattle.std.specs.Prelude.{◌≡◌, ℕ, suc, ◌+◌, ◌-◌, ◌*◌, ◌/◌, ◌%◌, ◌≤◌, Bool, cond, ◌&&◌, ◌⊎◌, List, [], ◌∷◌, ◌++◌, length, set, Some, nat_le, nat_lt, slice_index_or, slice_set}
+use Rattle.std.specs.Prelude.{◌≡◌, ℕ, suc, ◌-◌, ◌/◌, ◌%◌, ◌≤◌, Bool, cond, ◌&&◌, ◌⊎◌, List, [], ◌∷◌, ◌++◌, length, set, Some, nat_le, nat_lt, slice_index_or, slice_set}
 use Rattle.refusal.specs.declared.Refusal.TheVariants.{StoreSize, WrongLength, BadImage, NotNewer, TagLength, WrongToken, BlockRange, RunningBlock, CorePc}
 use Rattle.authenticator.specs.Meaning.{Meaning}
-use Rattle.layout.specs.Address.{InTcr, blocks_of, address_of}
+use Rattle.layout.specs.Address.{InTcr, blocks_of}
 use Rattle.layout.specs.Image.{IsImage, version_of, nonce_of, vectors_of}
 use Rattle.layout.specs.Placing.{Open, GoesPast, Fills, Share, Newer}
 use Rattle.control.specs.Blocks.{formed, pointer_to, flag_block, flag_in, Stands, Legal}
@@ -152,7 +152,7 @@ poke_if mark address byte pokes = cond mark (record { address = address; byte = 
 
 -- The core's byte, then the one of DMA.
 abbrev pub pokes_of : Cycle → ℕ → ℕ → List Poke
-pokes_of c byte dmaByte = poke_if c.writes c.write_at byte (poke_if c.dma c.dma_at dmaByte [])
+pokes_of c byte dma_byte = poke_if c.writes c.write_at byte (poke_if c.dma c.dma_at dma_byte [])
 
 -- The writes by which bytes come into their blocks, each over what those ahead of it left. An address outside the
 -- blocks changes nothing.
@@ -168,7 +168,7 @@ abbrev pub Pokes : Medium → List Put → Board → Outcome → Type 0
 Pokes m [] board o = o ≡ quiet answer.Passes board m
 Pokes m (p ∷ plan) board o = Read m p.block (Written m (p ∷ plan) answer.Passes board) o
 
-pub record Cycles (r : Running) (m : Medium) (c : Cycle) (byte dmaByte : ℕ) (scratch : List ℕ) (o : Outcome) (scratch' : List ℕ) : Type 0 where
+pub record Cycles (r : Running) (m : Medium) (c : Cycle) (byte dma_byte : ℕ) (scratch : List ℕ) (o : Outcome) (scratch' : List ℕ) : Type 0 where
   pub outcome :
       Tested
       (test (IsScratch scratch) WrongLength
@@ -176,7 +176,7 @@ pub record Cycles (r : Running) (m : Medium) (c : Cycle) (byte dmaByte : ℕ) (s
       (running r) m
       (λ o. ((W1 (Some r.place) c ⊎ W2 (Some r.place) c) × (o ≡ quiet answer.Resets cold m))
       ⊎ ((W1 (Some r.place) c → ⊥) × (W2 (Some r.place) c → ⊥)
-      × Pokes m (poking m.blocks (pokes_of c byte dmaByte)) (running r) o))
+      × Pokes m (poking m.blocks (pokes_of c byte dma_byte)) (running r) o))
       o
   pub scratch_left : scratch' ≡ swept o.answer scratch
 

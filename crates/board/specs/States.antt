@@ -1,5 +1,5 @@
 -- The states of a board.
-use Rattle.std.specs.Prelude.{◌≡◌, ℕ, ◌/◌, ◌%◌, ◌^◌, List, [], ◌∷◌, ◌++◌}
+use Rattle.std.specs.Prelude.{ℕ, ◌/◌, ◌%◌, List, [], ◌∷◌, ◌++◌}
 use Rattle.layout.specs.Address.{ermin, ermax, entry}
 use Rattle.layout.specs.declared.place.Place.{Place}
 use Rattle.board.specs.declared.states.Running.{Running}

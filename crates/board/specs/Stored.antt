@@ -1,5 +1,5 @@
 -- An image in a store's blocks.
-use Rattle.std.specs.Prelude.{◌≡◌, ℕ, zero, suc, ◌-◌, List, [], ◌∷◌, ◌++◌, length, take, drop, replicate, slice_index_or}
+use Rattle.std.specs.Prelude.{ℕ, zero, suc, ◌-◌, List, [], ◌∷◌, ◌++◌, length, take, drop, replicate, slice_index_or}
 use Rattle.std.specs.List.{flat_map}
 use Rattle.layout.specs.Address.{blocks_of}
 use Rattle.layout.specs.Image.{length_of}

@@ -1,5 +1,5 @@
 -- How a call goes: its tests in their order, then its work.
-use Rattle.std.specs.Prelude.{◌≡◌, ℕ, true, false, ◌⊎◌, List, [], ◌∷◌, Ok, Err, Result}
+use Rattle.std.specs.Prelude.{◌≡◌, ℕ, true, false, ◌⊎◌, List, [], Ok, Err, Result}
 use Rattle.refusal.specs.declared.Refusal.{Refusal}
 use Rattle.store.specs.Medium.{Medium, dark}
 use Rattle.board.specs.declared.answers.Answer.{Answer}

@@ -1,5 +1,5 @@
 -- The writes of a call: those it plans, and what becomes of them.
-use Rattle.std.specs.Prelude.{◌≡◌, ℕ, suc, Bool, true, false, List, [], ◌∷◌, Ok, Err, Result, slice_set}
+use Rattle.std.specs.Prelude.{ℕ, suc, Bool, true, false, List, [], ◌∷◌, Ok, Err, Result, slice_set}
 use Rattle.store.specs.declared.fault.Fault.{Fault}
 use Rattle.store.specs.Calls.{Writing}
 use Rattle.store.specs.Medium.{Medium, held, after}

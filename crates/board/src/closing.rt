@@ -23,7 +23,7 @@ pub(crate) fn put_pointer<S: Store>(
     scratch: &mut [u8],
 ) -> Result<(), Supply>
     requires { length scratch.old ≡ 512 }
-    ensures { Row write (plan (block_of block) (pointer_to place.first place.len) ∷ []) (medium store.old) result (medium store.new) }
+    ensures { Row write (plan (block_of block) (pointer_to place.first place.len) ∷ []) (S.medium store.old) result (S.medium store.new) }
 {
     match form_pointer(place, scratch) {
         Ok(()) => put(store, write, block.block(), scratch),
@@ -39,7 +39,7 @@ pub(crate) fn put_vectors<S: Store>(
     scratch: &mut [u8],
 ) -> Result<(), Supply>
     requires { (length scratch.old ≡ 512) × (length vectors.now ≡ 32) }
-    ensures { Row write (plan 1 (formed vectors.now) ∷ []) (medium store.old) result (medium store.new) }
+    ensures { Row write (plan 1 (formed vectors.now) ∷ []) (S.medium store.old) result (S.medium store.new) }
 {
     match form_vectors(vectors, scratch) {
         Ok(()) => put(store, write, Control::Vectors.block(), scratch),
@@ -55,7 +55,7 @@ pub(crate) fn put_flag<S: Store>(
     scratch: &mut [u8],
 ) -> Result<(), Supply>
     requires { length scratch.old ≡ 512 }
-    ensures { Row write (plan 2 (flag_block flag) ∷ []) (medium store.old) result (medium store.new) }
+    ensures { Row write (plan 2 (flag_block flag) ∷ []) (S.medium store.old) result (S.medium store.new) }
 {
     match form_flag(flag, scratch) {
         Ok(()) => put(store, write, Control::Flag.block(), scratch),
@@ -72,7 +72,7 @@ pub(crate) fn close<S: Store>(
     scratch: &mut [u8],
 ) -> Result<(), Supply>
     requires { (length scratch.old ≡ 512) × (write ≤ 3) }
-    ensures { Row write (closing place.first place.len (bytes_of vectors)) (medium store.old) result (medium store.new) }
+    ensures { Row write (closing place.first place.len (bytes_of vectors)) (S.medium store.old) result (S.medium store.new) }
 {
     let bytes = bytes_of(vectors);
     put_pointer(store, write, Control::Pointer, place, scratch)?;

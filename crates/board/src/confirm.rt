@@ -20,9 +20,9 @@ pub(crate) fn confirm<K: Authenticator>(
     register: &mut [u8],
 )
     requires { length register.old ≡ 32 }
-    ensures key { key authenticator.new ≡ key authenticator.old }
-    ensures state { state authenticator.new ≡ means.begin (key authenticator.old) }
-    ensures register { register.new ≡ padded (confirmation_of means (key authenticator.old) version nonce) }
+    ensures key { K.key authenticator.new ≡ K.key authenticator.old }
+    ensures state { K.state authenticator.new ≡ K.means.begin (K.key authenticator.old) }
+    ensures register { register.new ≡ padded (confirmation_of K.means (K.key authenticator.old) version nonce) }
 {
     authenticator.open();
     authenticator.feed(&[CONFIRMATION]);

@@ -26,7 +26,7 @@ impl Running {
         dma_byte: u8,
         scratch: &mut [u8],
     ) -> Result<Cycled, Denied<Running>>
-        ensures { (ws : List Write) × Cycles self (medium store.old) cycle byte dma_byte scratch.old (cycled ws result (medium store.new)) scratch.new }
+        ensures { (ws : List Write) × Cycles self (S.medium store.old) cycle byte dma_byte scratch.old (cycled ws result (S.medium store.new)) scratch.new }
     {
         if scratch.len() != BLOCK {
             return Err(Denied::Refused(self, Refusal::WrongLength));
@@ -46,7 +46,7 @@ impl Running {
         scratch: &mut [u8],
     ) -> Result<Cycled, Denied<Running>>
         requires { length scratch.old ≡ 512 }
-        ensures { (ws : List Write) × Cycles self (medium store.old) cycle byte dma_byte scratch.old (cycled ws result (medium store.new)) (cleared scratch.old) }
+        ensures { (ws : List Write) × Cycles self (S.medium store.old) cycle byte dma_byte scratch.old (cycled ws result (S.medium store.new)) (cleared scratch.old) }
     {
         if in_tcr(cycle.pc) {
             return Err(Denied::Refused(self, Refusal::CorePc));

@@ -48,9 +48,9 @@ impl Matched {
     // The image that was offered runs, and is confirmed.
     fn succeed<K: Authenticator>(self, authenticator: &mut K, register: &mut [u8]) -> Installed
         requires { length register.old ≡ 32 }
-        ensures key { key authenticator.new ≡ key authenticator.old }
-        ensures state { state authenticator.new ≡ means.begin (key authenticator.old) }
-        ensures register { register.new ≡ padded (confirmation_of means (key authenticator.old) self.version self.nonce) }
+        ensures key { K.key authenticator.new ≡ K.key authenticator.old }
+        ensures state { K.state authenticator.new ≡ K.means.begin (K.key authenticator.old) }
+        ensures register { register.new ≡ padded (confirmation_of K.means (K.key authenticator.old) self.version self.nonce) }
         ensures installed { result ≡ record { running = record { place = self.place; version = self.version }; launch = launch_of self.place } }
     {
         confirm(authenticator, self.version, self.nonce, register);
@@ -72,7 +72,7 @@ fn write_install<S: Store>(
     scratch: &mut [u8],
 ) -> Result<(), Supply>
     requires { length scratch.old ≡ 512 }
-    ensures { Row 1 (installing place.first place.len (bytes_of vectors)) (medium store.old) result (medium store.new) }
+    ensures { Row 1 (installing place.first place.len (bytes_of vectors)) (S.medium store.old) result (S.medium store.new) }
 {
     put_pointer(store, 1, Control::BufferPointer, place, scratch)?;
     put_flag(store, 2, Flag::Unfinished, scratch)?;

@@ -31,7 +31,7 @@ impl Cold {
         image: &[u8],
         scratch: &mut [u8],
     ) -> Result<Cold, Denied<Cold>>
-        ensures { (ws : List Write) × Loads (medium store.old) image.now scratch.old (loaded ws result (medium store.new)) scratch.new }
+        ensures { (ws : List Write) × Loads (S.medium store.old) image.now scratch.old (loaded ws result (S.medium store.new)) scratch.new }
     {
         if scratch.len() != BLOCK {
             return Err(Denied::Refused(self, Refusal::WrongLength));
@@ -49,7 +49,7 @@ impl Cold {
         scratch: &mut [u8],
     ) -> Result<Cold, Denied<Cold>>
         requires { length scratch.old ≡ 512 }
-        ensures { (ws : List Write) × Loads (medium store.old) image.now scratch.old (loaded ws result (medium store.new)) (cleared scratch.old) }
+        ensures { (ws : List Write) × Loads (S.medium store.old) image.now scratch.old (loaded ws result (S.medium store.new)) (cleared scratch.old) }
     {
         match place_of(image, store.count()) {
             Ok(place) => {
@@ -94,7 +94,7 @@ fn write_pages<S: Store>(
     scratch: &mut [u8],
 ) -> Result<(), Supply>
     requires { (length scratch.old ≡ 512) × ((blocks ≤ 108) × (512 * blocks ≤ length image.now + 511)) }
-    ensures { Row 1 (puts 4 (pages blocks image.now)) (medium store.old) result (medium store.new) }
+    ensures { Row 1 (puts 4 (pages blocks image.now)) (S.medium store.old) result (S.medium store.new) }
 {
     for k in 0..blocks {
         lay_page(image, k, scratch);
@@ -112,7 +112,7 @@ fn write_control<S: Store>(
     scratch: &mut [u8],
 ) -> Result<(), Supply>
     requires { (length scratch.old ≡ 512) × ((length vectors.now ≡ 32) × (write ≤ 200)) }
-    ensures { Row write (plan 1 (formed vectors.now) ∷ plan 2 (flag_block Finished) ∷ plan 0 (pointer_to place.first place.len) ∷ []) (medium store.old) result (medium store.new) }
+    ensures { Row write (plan 1 (formed vectors.now) ∷ plan 2 (flag_block Finished) ∷ plan 0 (pointer_to place.first place.len) ∷ []) (S.medium store.old) result (S.medium store.new) }
 {
     put_vectors(store, write, vectors, scratch)?;
     put_flag(store, write + 1, Flag::Finished, scratch)?;
@@ -127,7 +127,7 @@ fn write_load<S: Store>(
     scratch: &mut [u8],
 ) -> Result<(), Supply>
     requires { (length scratch.old ≡ 512) × ((IsImage image.now) × ((place.first ≡ 4) × (place.len ≡ length image.now))) }
-    ensures { Row 1 (loading image.now) (medium store.old) result (medium store.new) }
+    ensures { Row 1 (loading image.now) (S.medium store.old) result (S.medium store.new) }
 {
     let blocks = blocks_of(place.len);
     write_pages(store, image, blocks, scratch)?;

@@ -118,8 +118,8 @@ impl Running {
 
     // Keeps the image at `place`, which begins with `header`, for an install.
     fn take<S: Store>(self, store: &S, place: Place, header: Header, scratch: &mut [u8]) -> Matched
-        requires { (length scratch.old ≡ 512) × ((Readable (medium store.now)) × ((Lies (length (medium store.now).blocks) place.first place.len) × ((header ≡ header_of (held (medium store.now) place.first)) × (place.len ≡ header.len)))) }
-        ensures { Takes self (medium store.now) place.first result }
+        requires { (length scratch.old ≡ 512) × ((Readable (S.medium store.now)) × ((Lies (length (S.medium store.now).blocks) place.first place.len) × ((header ≡ header_of (held (S.medium store.now) place.first)) × (place.len ≡ header.len)))) }
+        ensures { Takes self (S.medium store.now) place.first result }
     {
         let vectors = vectors(store, place.first, place.len, scratch);
         let Header {

@@ -21,7 +21,7 @@ pub(crate) fn poke_all<S: Store>(
     scratch: &mut [u8],
 ) -> Result<(), Supply>
     requires { length scratch.old ≡ 512 }
-    ensures { ReadRow 1 (poking (medium store.old).blocks (pokes_of cycle byte dma_byte)) (medium store.old) result (medium store.new) }
+    ensures { ReadRow 1 (poking (S.medium store.old).blocks (pokes_of cycle byte dma_byte)) (S.medium store.old) result (S.medium store.new) }
 {
     let next = poke(store, 1, cycle.writes, cycle.write_at, byte, scratch)?;
     poke(store, next, cycle.dma, cycle.dma_at, dma_byte, scratch)?;
@@ -39,7 +39,7 @@ fn poke<S: Store>(
     scratch: &mut [u8],
 ) -> Result<u8, Supply>
     requires { (length scratch.old ≡ 512) × (write ≤ 2) }
-    ensures { Poked write (poking (medium store.old).blocks (poke_if mark at byte [])) (medium store.old) result (medium store.new) }
+    ensures { Poked write (poking (S.medium store.old).blocks (poke_if mark at byte [])) (S.medium store.old) result (S.medium store.new) }
 {
     if !mark {
         return Ok(write);
@@ -68,8 +68,8 @@ fn rewrite<S: Store>(
     byte: u8,
     scratch: &mut [u8],
 ) -> Result<(), Supply>
-    requires { (length scratch.old ≡ 512) × ((block < length (medium store.old).blocks) × (offset < 512)) }
-    ensures { ReadRow write (plan block (slice_set (held (medium store.old) block) offset byte) ∷ []) (medium store.old) result (medium store.new) }
+    requires { (length scratch.old ≡ 512) × ((block < length (S.medium store.old).blocks) × (offset < 512)) }
+    ensures { ReadRow write (plan block (slice_set (held (S.medium store.old) block) offset byte) ∷ []) (S.medium store.old) result (S.medium store.new) }
 {
     read(store, block, scratch)?;
     scratch[offset] = byte;
@@ -78,8 +78,8 @@ fn rewrite<S: Store>(
 
 /// Reads a block of a store that may be dark.
 pub(crate) fn read<S: Store>(store: &S, block: usize, scratch: &mut [u8]) -> Result<(), Supply>
-    requires { (length scratch.old ≡ 512) × (block < length (medium store.now).blocks) }
-    ensures { MatchResult result (λ _. ((medium store.now).live ≡ true) × (scratch.new ≡ held (medium store.now) block)) (λ s. ((medium store.now).live ≡ false) × (s ≡ unread (medium store.now) block)) }
+    requires { (length scratch.old ≡ 512) × (block < length (S.medium store.now).blocks) }
+    ensures { MatchResult result (λ _. ((S.medium store.now).live ≡ true) × (scratch.new ≡ held (S.medium store.now) block)) (λ s. ((S.medium store.now).live ≡ false) × (s ≡ unread (S.medium store.now) block)) }
 {
     match store.read(block, scratch) {
         Ok(()) => Ok(()),

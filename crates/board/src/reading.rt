@@ -22,8 +22,8 @@ const NONCE: usize = 4;
 
 /// Reads a block of a live store.
 pub(crate) fn fetch<S: Store>(store: &S, block: usize, scratch: &mut [u8])
-    requires { (length scratch.old ≡ 512) × ((Readable (medium store.now)) × (block < length (medium store.now).blocks)) }
-    ensures { scratch.new ≡ held (medium store.now) block }
+    requires { (length scratch.old ≡ 512) × ((Readable (S.medium store.now)) × (block < length (S.medium store.now).blocks)) }
+    ensures { scratch.new ≡ held (S.medium store.now) block }
 {
     match store.read(block, scratch) {
         Ok(()) => (),
@@ -62,8 +62,8 @@ pub(crate) fn nonce<S: Store>(
     len: u16,
     scratch: &mut [u8],
 ) -> [u8; NONCE_LEN]
-    requires { (length scratch.old ≡ 512) × ((Readable (medium store.now)) × (Lies (length (medium store.now).blocks) first len)) }
-    ensures { result ≡ nonce_of (image_at (medium store.now).blocks first len) }
+    requires { (length scratch.old ≡ 512) × ((Readable (S.medium store.now)) × (Lies (length (S.medium store.now).blocks) first len)) }
+    ensures { result ≡ nonce_of (image_at (S.medium store.now).blocks first len) }
 {
     fetch(store, first, scratch);
     header(scratch).nonce
@@ -71,8 +71,8 @@ pub(crate) fn nonce<S: Store>(
 
 /// The vectors of the image of `len` bytes from block `first` on.
 pub(crate) fn vectors<S: Store>(store: &S, first: usize, len: u16, scratch: &mut [u8]) -> [u64; 4]
-    requires { (length scratch.old ≡ 512) × ((Readable (medium store.now)) × (Lies (length (medium store.now).blocks) first len)) }
-    ensures { bytes_of result ≡ vectors_of (image_at (medium store.now).blocks first len) }
+    requires { (length scratch.old ≡ 512) × ((Readable (S.medium store.now)) × (Lies (length (S.medium store.now).blocks) first len)) }
+    ensures { bytes_of result ≡ vectors_of (image_at (S.medium store.now).blocks first len) }
 {
     let begin = len as usize - VECTORS_LEN;
     let mut bytes = [0; VECTORS_LEN];
@@ -86,8 +86,8 @@ pub(crate) fn vectors<S: Store>(store: &S, first: usize, len: u16, scratch: &mut
 
 // Reads the block that holds byte `at` of those from block `first` on, unless it is there from the byte ahead.
 fn fetch_at<S: Store>(store: &S, first: usize, at: usize, fresh: bool, scratch: &mut [u8])
-    requires { (length scratch.old ≡ 512) × ((Readable (medium store.now)) × ((first + at / 512 < length (medium store.now).blocks) × ((first + at / 512 < 112) × ((fresh ≡ false → scratch.old ≡ held (medium store.now) (first + (at - 1) / 512)))))) }
-    ensures { scratch.new ≡ held (medium store.now) (first + at / 512) }
+    requires { (length scratch.old ≡ 512) × ((Readable (S.medium store.now)) × ((first + at / 512 < length (S.medium store.now).blocks) × ((first + at / 512 < 112) × ((fresh ≡ false → scratch.old ≡ held (S.medium store.now) (first + (at - 1) / 512)))))) }
+    ensures { scratch.new ≡ held (S.medium store.now) (first + at / 512) }
 {
     if fresh || at % BLOCK == 0 {
         fetch(store, first + at / BLOCK, scratch);

@@ -21,7 +21,7 @@ impl Running {
         block: usize,
         bytes: &[u8],
     ) -> Result<Running, Denied<Running>>
-        ensures { (ws : List Write) × Stages self (medium store.old) block bytes.now (staged ws result (medium store.new)) }
+        ensures { (ws : List Write) × Stages self (S.medium store.old) block bytes.now (staged ws result (S.medium store.new)) }
     {
         if bytes.len() != BLOCK {
             return Err(Denied::Refused(self, Refusal::WrongLength));

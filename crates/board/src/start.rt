@@ -71,8 +71,8 @@ impl Cold {
 
     // Runs what block 0 points to.
     fn run<S: Store>(self, store: &S, scratch: &mut [u8]) -> Result<Started, Unstarted>
-        requires { (length scratch.old ≡ 512) × ((Readable (medium store.now)) × (8 ≤ length (medium store.now).blocks)) }
-        ensures { Resumes Finished (medium store.now) (started [] result (medium store.now)) }
+        requires { (length scratch.old ≡ 512) × ((Readable (S.medium store.now)) × (8 ≤ length (S.medium store.now).blocks)) }
+        ensures { Resumes Finished (S.medium store.now) (started [] result (S.medium store.now)) }
     {
         match pointed(store, Control::Pointer.block(), scratch) {
             None => Err(Unstarted::NotLoaded(self, Control::Pointer.block())),
@@ -108,8 +108,8 @@ impl Cold {
         running: Running,
         scratch: &mut [u8],
     ) -> Result<Started, Unstarted>
-        requires { (length scratch.old ≡ 512) × ((Readable (medium store.now)) × ((8 ≤ length (medium store.now).blocks) × (RunsBy (medium store.now) 0 running))) }
-        ensures { Resumes Finished (medium store.now) (started [] result (medium store.now)) }
+        requires { (length scratch.old ≡ 512) × ((Readable (S.medium store.now)) × ((8 ≤ length (S.medium store.now).blocks) × (RunsBy (S.medium store.now) 0 running))) }
+        ensures { Resumes Finished (S.medium store.now) (started [] result (S.medium store.now)) }
     {
         if !vectors_stand(store, scratch) {
             let Cold {} = running.end();
@@ -157,8 +157,8 @@ impl Running {
 
 // What the flag block tells.
 fn flag<S: Store>(store: &S, scratch: &mut [u8]) -> Flag
-    requires { (length scratch.old ≡ 512) × ((Readable (medium store.now)) × (8 ≤ length (medium store.now).blocks)) }
-    ensures { result ≡ flag_in (held (medium store.now) 2) }
+    requires { (length scratch.old ≡ 512) × ((Readable (S.medium store.now)) × (8 ≤ length (S.medium store.now).blocks)) }
+    ensures { result ≡ flag_in (held (S.medium store.now) 2) }
 {
     fetch(store, Control::Flag.block(), scratch);
     match read_flag(scratch) {
@@ -169,8 +169,8 @@ fn flag<S: Store>(store: &S, scratch: &mut [u8]) -> Flag
 
 // Whether the vectors block stands.
 fn vectors_stand<S: Store>(store: &S, scratch: &mut [u8]) -> bool
-    requires { (length scratch.old ≡ 512) × ((Readable (medium store.now)) × (8 ≤ length (medium store.now).blocks)) }
-    ensures { Decides result (Stands Vectors (held (medium store.now) 1)) }
+    requires { (length scratch.old ≡ 512) × ((Readable (S.medium store.now)) × (8 ≤ length (S.medium store.now).blocks)) }
+    ensures { Decides result (Stands Vectors (held (S.medium store.now) 1)) }
 {
     fetch(store, Control::Vectors.block(), scratch);
     match stands(Control::Vectors, scratch) {
@@ -181,8 +181,8 @@ fn vectors_stand<S: Store>(store: &S, scratch: &mut [u8]) -> bool
 
 // The image that `block` is a legal pointer to, if it is one.
 fn pointed<S: Store>(store: &S, block: usize, scratch: &mut [u8]) -> Option<Running>
-    requires { (length scratch.old ≡ 512) × ((Readable (medium store.now)) × (block < length (medium store.now).blocks)) }
-    ensures { MatchOption result (LegalAt (medium store.now) block → ⊥) (λ running. RunsBy (medium store.now) block running) }
+    requires { (length scratch.old ≡ 512) × ((Readable (S.medium store.now)) × (block < length (S.medium store.now).blocks)) }
+    ensures { MatchOption result (LegalAt (S.medium store.now) block → ⊥) (λ running. RunsBy (S.medium store.now) block running) }
 {
     let place = place_at(store, block, scratch)?;
     fetch(store, place.first, scratch);
@@ -198,8 +198,8 @@ fn pointed<S: Store>(store: &S, block: usize, scratch: &mut [u8]) -> Option<Runn
 
 // The place that `block` points to, if it points to one.
 fn place_at<S: Store>(store: &S, block: usize, scratch: &mut [u8]) -> Option<Place>
-    requires { (length scratch.old ≡ 512) × ((Readable (medium store.now)) × (block < length (medium store.now).blocks)) }
-    ensures { Pointed (length (medium store.now).blocks) (held (medium store.now) block) result }
+    requires { (length scratch.old ≡ 512) × ((Readable (S.medium store.now)) × (block < length (S.medium store.now).blocks)) }
+    ensures { Pointed (length (S.medium store.now).blocks) (held (S.medium store.now) block) result }
 {
     fetch(store, block, scratch);
     match read_pointer(scratch, store.count()) {

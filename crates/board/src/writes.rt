@@ -33,7 +33,7 @@ pub(crate) fn put<S: Store>(
     block: usize,
     bytes: &[u8],
 ) -> Result<(), Supply>
-    ensures { Row write (plan block bytes.now ∷ []) (medium store.old) result (medium store.new) }
+    ensures { Row write (plan block bytes.now ∷ []) (S.medium store.old) result (S.medium store.new) }
 {
     Ok(numbered(write, store.write(block, bytes))?)
 }

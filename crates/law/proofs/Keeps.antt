@@ -1,6 +1,6 @@
 -- The writes of each call keep the invariant, wherever one is cut.
 use Rattle.std.proofs.Common.{◌≡◌, ℕ, suc, ◌<◌, ◌≤◌, Bool, true, false, cond, List, [], ◌∷◌, length, get_or, set, refl, ap, ◌∙◌, arith}
-use Rattle.std.specs.List.{AllByRecursion as All}
+use Rattle.std.specs.List.{AllByRecursion}
 use Rattle.std.proofs.lemmas.List.{get_or-set_same}
 use Rattle.authenticator.specs.Meaning.{Meaning}
 use Rattle.layout.specs.Image.{version_of, vectors_of}
@@ -127,7 +127,7 @@ abbrev pub Unguarded : ℕ → ℕ → ℕ → Put → Type 0
 Unguarded count f l p = (3 ≤ p.block) × (Fills f l p.block → ⊥) × (length p.bytes ≡ 512) × (p.block < count)
 
 -- such writes keep the image, and a store that is finished
-pub unguarded : (img : List ℕ) (bs : List (List ℕ)) (count f l : ℕ) (plan : List Put) (ws : List Write) → All (Unguarded count f l) plan →
+pub unguarded : (img : List ℕ) (bs : List (List ℕ)) (count f l : ℕ) (plan : List Put) (ws : List Write) → AllByRecursion (Unguarded count f l) plan →
     Performs plan ws → Base img bs f l → Good img bs f l → Base img (written ws bs) f l × Good img (written ws bs) f l
 unguarded img bs count f l plan ws u all_done b g = (b, g)
 unguarded img bs count f l plan ws u (done_next {p = p} {plan = plan'} {ws = ws'} q) b g =

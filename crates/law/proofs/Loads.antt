@@ -1,6 +1,6 @@
 -- What an accepted load leaves: the image in its place, and a store that reads finished.
-use Rattle.std.proofs.Common.{◌≡◌, ℕ, ◌+◌, ◌<◌, ◌≤◌, Bool, true, false, cond, List, [], ◌∷◌, ◌++◌, length, set, sym, refl, ap, ◌∙◌, subst₂, arith}
-use Rattle.std.specs.List.{AllByRecursion as All}
+use Rattle.std.proofs.Common.{◌≡◌, ℕ, ◌<◌, ◌≤◌, Bool, true, false, cond, List, [], ◌∷◌, length, set, sym, refl, ap, ◌∙◌, subst₂, arith}
+use Rattle.std.specs.List.{AllByRecursion}
 use Rattle.std.proofs.lemmas.List.{get_or-set_same}
 use Rattle.std.proofs.ByRecursion.{All-append, All-from_get_or}
 use Rattle.std.proofs.lemmas.Bool.{cond-false}
@@ -99,7 +99,7 @@ load_left a key factory m o s fit is room accepted w =
         (base_there factory m.blocks 4 is (omega arith, omega arith, omega arith) s fit)
 
 -- each write of a load is into a block of the store
-loading_range : (factory : List ℕ) (count : ℕ) → 8 ≤ count → (GoesPast count 4 (length factory) → ⊥) → All (λ (p : Put). p.block < count) (loading factory)
+loading_range : (factory : List ℕ) (count : ℕ) → 8 ≤ count → (GoesPast count 4 (length factory) → ⊥) → AllByRecursion (λ (p : Put). p.block < count) (loading factory)
 loading_range factory count many room =
     let n : ℕ = blocks_of (length factory) in
     All-append (λ (p : Put). p.block < count) (puts 4 (pages n factory)) _ (puts_range 4 count (pages n factory) (omega (arith, pages_length n factory)))

@@ -2,7 +2,7 @@
 use Rattle.std.proofs.Common.{◌≡◌, ℕ, zero, suc, ◌+◌, ◌-◌, ◌*◌, ◌<◌, ◌≤◌, List, [], ◌∷◌, ◌++◌, length, get_or, take, drop, set, replicate, sym, refl, ap, ◌∙◌, subst, ap₂, arith}
 use native.Mathlib.Decide.{dec_le}
 use lib.Seq.{take-append_seam, take-append-add}
-use Rattle.std.specs.List.{flat_map, AllByRecursion as All}
+use Rattle.std.specs.List.{flat_map, AllByRecursion}
 use Rattle.std.proofs.lemmas.List.{length-set, length-take, length-drop, length-append, length-replicate, get_or-set_same, get_or-set_other, get_or-take, get_or_append_left, take-append-drop, take_all, append_assoc, append-nil, nil_from_length, drop_more}
 use Rattle.std.proofs.ByRecursion.{All-set}
 use Rattle.layout.specs.Address.{blocks_of}
@@ -48,7 +48,7 @@ puts_sized b [] bs s t = t
 puts_sized b (x ∷ xs) bs s t = puts_sized (suc b) xs (set bs b x) s.1 (All-set (λ (c : List ℕ). length c ≡ 512) bs b x s.0 t)
 
 -- they go into blocks of the store
-pub puts_range : (b count : ℕ) (xs : List (List ℕ)) → b + length xs ≤ count → All (λ (p : Put). p.block < count) (puts b xs)
+pub puts_range : (b count : ℕ) (xs : List (List ℕ)) → b + length xs ≤ count → AllByRecursion (λ (p : Put). p.block < count) (puts b xs)
 puts_range b count [] room = tt
 puts_range b count (x ∷ xs) room = (omega arith, puts_range (suc b) count xs (omega arith))
 

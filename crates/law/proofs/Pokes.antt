@@ -1,6 +1,6 @@
 -- The writes of a cycle that passes go into no guarded block.
 use Rattle.std.proofs.Common.{◌≡◌, ℕ, ◌-◌, ◌/◌, ◌%◌, ◌<◌, ◌≤◌, Bool, true, ◌&&◌, ltb, leb, ◌⊎◌, List, [], ◌∷◌, length, get_or, set, Some, refl, ◌∙◌, inl, inr, ⊎_elim, arith}
-use Rattle.std.specs.List.{AllByRecursion as All}
+use Rattle.std.specs.List.{AllByRecursion}
 use Rattle.std.proofs.lemmas.List.{length-set}
 use Rattle.std.proofs.ByRecursion.{All-set, All-get_or}
 use Rattle.std.proofs.lemmas.Bool.{cases_lt, and_parts, leb-true, ltb-true, cond_both}
@@ -26,14 +26,14 @@ free_block f l address le free =
     (omega arith, (λ fills. free (inr (omega arith, omega arith))))
 
 -- bytes at such addresses come into no guarded block
-pub poked : (bs : List (List ℕ)) (ps : List Poke) (count f l : ℕ) → length bs ≡ count → Sized bs → All (λ (p : Poke). Free f l p.address) ps →
-    All (Unguarded count f l) (poking bs ps)
+pub poked : (bs : List (List ℕ)) (ps : List Poke) (count f l : ℕ) → length bs ≡ count → Sized bs → AllByRecursion (λ (p : Poke). Free f l p.address) ps →
+    AllByRecursion (Unguarded count f l) (poking bs ps)
 unfolding poking
 poked bs [] count f l size s a = tt
 poked bs (p ∷ ps) count f l size s a =
     let b : ℕ = (p.address - 8192) / 512 in
     let x : List ℕ = set (get_or bs b []) ((p.address - 8192) % 512) p.byte in
-    cond_both (leb 8192 p.address && ltb b (length bs)) (put b x ∷ poking (set bs b x) ps) (poking bs ps) (All (Unguarded count f l))
+    cond_both (leb 8192 p.address && ltb b (length bs)) (put b x ∷ poking (set bs b x) ps) (poking bs ps) (AllByRecursion (Unguarded count f l))
     (λ yes.
     let both = and_parts (leb 8192 p.address) (ltb b (length bs)) yes in
     let lt : b < length bs = ltb-true b (length bs) both.1 in
@@ -45,17 +45,17 @@ poked bs (p ∷ ps) count f l size s a =
     (λ no. poked bs ps count f l size s a.1)
 
 -- one more byte, if its mark is set
-poke_if_lem : (f l : ℕ) (mark : Bool) (address byte : ℕ) (ps : List Poke) → (mark ≡ true → Free f l address) → All (λ (p : Poke). Free f l p.address) ps →
-    All (λ (p : Poke). Free f l p.address) (poke_if mark address byte ps)
+poke_if_lem : (f l : ℕ) (mark : Bool) (address byte : ℕ) (ps : List Poke) → (mark ≡ true → Free f l address) → AllByRecursion (λ (p : Poke). Free f l p.address) ps →
+    AllByRecursion (λ (p : Poke). Free f l p.address) (poke_if mark address byte ps)
 poke_if_lem f l mark address byte ps free a =
-    cond_both mark (record { address = address; byte = byte } ∷ ps) ps (All (λ (p : Poke). Free f l p.address)) (λ e. (free e, a)) (λ e. a)
+    cond_both mark (record { address = address; byte = byte } ∷ ps) ps (AllByRecursion (λ (p : Poke). Free f l p.address)) (λ e. (free e, a)) (λ e. a)
 
 -- no byte of a cycle that keeps W1 goes to a guarded address
-pub unguarded_pokes : (place : Place) (c : Cycle) (byte dmaByte : ℕ) → (InTcr c.pc → ⊥) → (W1 (Some place) c → ⊥) →
-    All (λ (p : Poke). Free place.first place.len p.address) (pokes_of c byte dmaByte)
-unguarded_pokes place c byte dmaByte out kept =
-    poke_if_lem f l c.writes c.write_at byte (poke_if c.dma c.dma_at dmaByte []) (λ e g. kept (past, (c.write_at, inl (e, refl), g)))
-    (poke_if_lem f l c.dma c.dma_at dmaByte [] (λ e g. kept (past, (c.dma_at, inr (e, refl), g))) tt)
+pub unguarded_pokes : (place : Place) (c : Cycle) (byte dma_byte : ℕ) → (InTcr c.pc → ⊥) → (W1 (Some place) c → ⊥) →
+    AllByRecursion (λ (p : Poke). Free place.first place.len p.address) (pokes_of c byte dma_byte)
+unguarded_pokes place c byte dma_byte out kept =
+    poke_if_lem f l c.writes c.write_at byte (poke_if c.dma c.dma_at dma_byte []) (λ e g. kept (past, (c.write_at, inl (e, refl), g)))
+    (poke_if_lem f l c.dma c.dma_at dma_byte [] (λ e g. kept (past, (c.dma_at, inr (e, refl), g))) tt)
   where
     f : ℕ
     f = place.first

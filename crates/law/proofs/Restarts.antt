@@ -1,6 +1,6 @@
 -- Where a life ended with a cold board, a start can follow, and runs.
 use Rattle.std.proofs.Common.{◌≡◌, ℕ, ◌≤◌, ◌⊎◌, List, length, sym, refl, ap, ◌∙◌, subst, inl, inr, arith}
-use Rattle.std.specs.List.{AllByRecursion as All}
+use Rattle.std.specs.List.{AllByRecursion}
 use Rattle.authenticator.specs.Meaning.{Meaning}
 use Rattle.layout.specs.Image.{version_of, vectors_of}
 use Rattle.layout.specs.Placing.{Lies}
@@ -14,7 +14,7 @@ use Rattle.store.specs.Medium.{Medium, held, woken}
 use Rattle.board.specs.declared.states.Running.{Running}
 use Rattle.board.specs.declared.answers.Answer.{Answer}
 use Rattle.board.specs.declared.answers.Answer.TheVariants as answer
-use Rattle.board.specs.States.{cold, running, launch_of}
+use Rattle.board.specs.States.{running, launch_of}
 use Rattle.board.specs.Answers.{swept, shown, settled}
 use Rattle.board.specs.Stored.{image_at}
 use Rattle.board.specs.Writes.{Put}
@@ -32,7 +32,7 @@ abbrev pub place_at : (count first len : ℕ) → Lies count first len → Place
 place_at count first len lies = record { first = first; len = len; lies = (omega arith, omega arith, omega arith) }
 
 -- the three writes that end an install fit
-pub closing_fits : (count f l : ℕ) (vs : List ℕ) → 8 ≤ count → length vs ≡ 32 → All (Fitting count) (closing f l vs)
+pub closing_fits : (count f l : ℕ) (vs : List ℕ) → 8 ≤ count → length vs ≡ 32 → AllByRecursion (Fitting count) (closing f l vs)
 closing_fits count f l vs many long =
     ((pointer_length f l, omega arith), ((length-formed vs (omega arith), omega arith), ((flag_length Finished, omega arith), tt)))
 

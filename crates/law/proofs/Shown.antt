@@ -1,6 +1,6 @@
 -- What one call shows of the law, by the writes that it made.
 use Rattle.std.proofs.Common.{◌≡◌, ℕ, suc, ◌<◌, ◌≤◌, Bool, true, false, cond, List, [], sym, refl, ap, ◌∙◌, ap₂, inl, inr, arith}
-use Rattle.std.specs.List.{AllByRecursion as All}
+use Rattle.std.specs.List.{AllByRecursion}
 use Rattle.std.proofs.lemmas.Bool.{true≢false, cond-true, cond-false}
 use Rattle.authenticator.specs.Meaning.{Meaning, padded}
 use Rattle.layout.specs.Image.{version_of, nonce_of, vectors_of}
@@ -33,7 +33,7 @@ Up board = (r : Running) × (board ≡ running r)
 abbrev pub RightStart : Call → Type 0
 RightStart (start scratch register) = IsScratch scratch × IsRegister register
 RightStart (stage block bytes) = ⊥
-RightStart (cycle c byte dmaByte scratch) = ⊥
+RightStart (cycle c byte dma_byte scratch) = ⊥
 RightStart (offer first token scratch) = ⊥
 RightStart leave = ⊥
 RightStart (install scratch register) = ⊥
@@ -113,7 +113,7 @@ install_whole f l vs ws (done_next (done_next p)) (inr (inl d)) = absurd (flags_
 install_whole f l vs ws (done_next (done_next {ws = ws'} p)) (inr (inr d)) = closing_whole f l vs ws' p d
 
 -- no unguarded write is one of the flag
-no_flag : (count f l : ℕ) (plan : List Put) (ws : List Write) → All (Unguarded count f l) plan → Performs plan ws → Done 2 (flag_block Finished) ws → ⊥
+no_flag : (count f l : ℕ) (plan : List Put) (ws : List Write) → AllByRecursion (Unguarded count f l) plan → Performs plan ws → Done 2 (flag_block Finished) ws → ⊥
 no_flag count f l plan ws u all_done d = d
 no_flag count f l plan ws u (done_next p) (inl d) = omega (arith, u.0.0, d.0)
 no_flag count f l plan ws u (done_next {plan = plan'} {ws = ws'} p) (inr d) = no_flag count f l plan' ws' u.1 p d
@@ -123,7 +123,7 @@ no_flag count f l plan ws u (cut_here y long) d = d
 idle : (c : Call) → took_effect c [] ≡ false
 idle (start scratch register) = refl
 idle (stage block bytes) = refl
-idle (cycle c byte dmaByte scratch) = refl
+idle (cycle c byte dma_byte scratch) = refl
 idle (offer first token scratch) = refl
 idle leave = refl
 idle (install scratch register) = refl
@@ -155,7 +155,7 @@ module _ (a : Meaning) (key : a.Key) (img : List ℕ) (m : Match) (n i : ℕ) wh
       (s : Supply) (e : Medium) (reg : List ℕ) →
       is_match said ≡ false → ((k : ℕ) → counted said k ≡ k) → took_effect c ws ≡ false → (RightStart c → ⊥) →
       Base img bs f l → Duty img bs live f l r → n ≤ 1 → (i ≡ 0 → n ≡ 0) →
-      All (Unguarded count f l) plan → Performs plan ws → e.blocks ≡ written ws bs → (was_cut ws ≡ false → e.live ≡ true) →
+      AllByRecursion (Unguarded count f l) plan → Performs plan ws → e.blocks ≡ written ws bs → (was_cut ws ≡ false → e.live ≡ true) →
       Shown a key img m n i c (left ws s said (running r) e) reg
   writes c said bs count f l live r plan ws s e reg unmatched none idles wrong b d once un u p blocks_are on = record {
     inv = rw (idles, no_match (was_cut ws) s said unmatched, blocks_are) (go (was_cut ws) refl);

@@ -1,6 +1,6 @@
 -- What each call shows of the law, from its meaning.
 use Rattle.std.proofs.Common.{◌≡◌, ℕ, ◌<◌, ◌≤◌, Bool, true, false, ◌⊎◌, List, [], ◌∷◌, length, get_or, Some, sym, refl, ap, ◌∙◌, subst, ap₂, subst₂, inl, inr, ⊎_elim, arith}
-use Rattle.std.specs.List.{AllByRecursion as All}
+use Rattle.std.specs.List.{AllByRecursion}
 use Rattle.std.proofs.ByRecursion.{All-weaker}
 use Rattle.std.proofs.lemmas.Bool.{true≢false, cond-false}
 use Rattle.refusal.specs.declared.Refusal.{Refusal}
@@ -54,9 +54,9 @@ tested (test P refusal tests) board m Work o (inr (holds, rest)) = ⊎_elim inl 
 
 -- the parts of a cycle's meaning, and of an offer's
 abbrev Judged : Running → Medium → Cycle → ℕ → ℕ → Outcome → Type 0
-Judged r m c byte dmaByte o =
+Judged r m c byte dma_byte o =
     ((W1 (Some r.place) c ⊎ W2 (Some r.place) c) × (o ≡ quiet answer.Resets cold m))
-    ⊎ ((W1 (Some r.place) c → ⊥) × (W2 (Some r.place) c → ⊥) × Pokes m (poking m.blocks (pokes_of c byte dmaByte)) (running r) o)
+    ⊎ ((W1 (Some r.place) c → ⊥) × (W2 (Some r.place) c → ⊥) × Pokes m (poking m.blocks (pokes_of c byte dma_byte)) (running r) o)
 
 -- an offer's tests ahead of its read
 abbrev offer_tests : ℕ → ℕ → List ℕ → ℕ → List ℕ → Tests
@@ -163,7 +163,7 @@ module _ (a : Meaning) (key : a.Key) (img : List ℕ) (m : Match) (n i : ℕ) wh
 
     wrote_unguarded : (c : Call) (said : Answer) (plan : List Put) → is_match said ≡ false → ((k : ℕ) → counted said k ≡ k) →
         took_effect c o.writes ≡ false → (RightStart c → ⊥) →
-        All (Unguarded (length s.blocks) r.place.first r.place.len) plan → Written s plan said (running r) o → Shown a key img m n i c o reg
+        AllByRecursion (Unguarded (length s.blocks) r.place.first r.place.len) plan → Written s plan said (running r) o → Shown a key img m n i c o reg
     wrote_unguarded c said plan unmatched none idles wrong u work =
         let w : Wrote s plan said (running r) o = wrote s plan said (running r) o work v.base.sized
         (All-weaker (Unguarded (length s.blocks) r.place.first r.place.len) (λ (p : Put). p.block < length s.blocks) (λ p x. x.3) plan u) in
@@ -181,28 +181,28 @@ module _ (a : Meaning) (key : a.Key) (img : List ℕ) (m : Match) (n i : ℕ) wh
         wrote_unguarded (stage b bytes) answer.Done (put b bytes ∷ []) refl (λ k. refl) refl (λ right. right)
         ((omega (arith, y.0.1.0.0), y.0.1.1.0, y.0.0, omega (arith, y.0.1.0.1)), tt) y.1)
 
-    passes : (c : Cycle) (byte dmaByte : ℕ) (scratch : List ℕ) (plan : List Put) →
-        All (Unguarded (length s.blocks) r.place.first r.place.len) plan → Pokes s plan (running r) o →
-        Shown a key img m n i (cycle c byte dmaByte scratch) o reg
-    passes c byte dmaByte scratch [] u is = quietly (cycle c byte dmaByte scratch) answer.Passes (running r) s o reg refl (λ k. refl) (λ right. absurd right) v is
-    passes c byte dmaByte scratch (p ∷ plan) u (inl (off, is)) = chilled (cycle c byte dmaByte scratch) (answer.Supply _) refl (λ k. refl) (λ right. right) is
-    passes c byte dmaByte scratch (p ∷ plan) u (inr (on, work)) =
-        wrote_unguarded (cycle c byte dmaByte scratch) answer.Passes (p ∷ plan) refl (λ k. refl) refl (λ right. right) u work
+    passes : (c : Cycle) (byte dma_byte : ℕ) (scratch : List ℕ) (plan : List Put) →
+        AllByRecursion (Unguarded (length s.blocks) r.place.first r.place.len) plan → Pokes s plan (running r) o →
+        Shown a key img m n i (cycle c byte dma_byte scratch) o reg
+    passes c byte dma_byte scratch [] u is = quietly (cycle c byte dma_byte scratch) answer.Passes (running r) s o reg refl (λ k. refl) (λ right. absurd right) v is
+    passes c byte dma_byte scratch (p ∷ plan) u (inl (off, is)) = chilled (cycle c byte dma_byte scratch) (answer.Supply _) refl (λ k. refl) (λ right. right) is
+    passes c byte dma_byte scratch (p ∷ plan) u (inr (on, work)) =
+        wrote_unguarded (cycle c byte dma_byte scratch) answer.Passes (p ∷ plan) refl (λ k. refl) refl (λ right. right) u work
 
-    judged : (c : Cycle) (byte dmaByte : ℕ) (scratch : List ℕ) → (InTcr c.pc → ⊥) → Judged r s c byte dmaByte o →
-        Shown a key img m n i (cycle c byte dmaByte scratch) o reg
-    judged c byte dmaByte scratch out (inl (broken, is)) = chilled (cycle c byte dmaByte scratch) answer.Resets refl (λ k. refl) (λ right. right) is
-    judged c byte dmaByte scratch out (inr (one, two, work)) =
-        passes c byte dmaByte scratch (poking s.blocks (pokes_of c byte dmaByte))
-        (poked s.blocks (pokes_of c byte dmaByte) (length s.blocks) r.place.first r.place.len refl v.base.sized
-        (unguarded_pokes r.place c byte dmaByte out one)) work
+    judged : (c : Cycle) (byte dma_byte : ℕ) (scratch : List ℕ) → (InTcr c.pc → ⊥) → Judged r s c byte dma_byte o →
+        Shown a key img m n i (cycle c byte dma_byte scratch) o reg
+    judged c byte dma_byte scratch out (inl (broken, is)) = chilled (cycle c byte dma_byte scratch) answer.Resets refl (λ k. refl) (λ right. right) is
+    judged c byte dma_byte scratch out (inr (one, two, work)) =
+        passes c byte dma_byte scratch (poking s.blocks (pokes_of c byte dma_byte))
+        (poked s.blocks (pokes_of c byte dma_byte) (length s.blocks) r.place.first r.place.len refl v.base.sized
+        (unguarded_pokes r.place c byte dma_byte out one)) work
 
-    pub cycle_shown : (c : Cycle) (byte dmaByte : ℕ) (scratch scratch' : List ℕ) → Cycles r s c byte dmaByte scratch o scratch' →
-        Shown a key img m n i (cycle c byte dmaByte scratch) o reg
-    cycle_shown c byte dmaByte scratch scratch' x =
-        cases (tested (test (IsScratch scratch) WrongLength (test (InTcr c.pc → ⊥) CorePc pass)) (running r) s (Judged r s c byte dmaByte) o x.outcome)
-        (refused (cycle c byte dmaByte scratch) (λ right. right))
-        (λ y. judged c byte dmaByte scratch y.0.1.0 y.1)
+    pub cycle_shown : (c : Cycle) (byte dma_byte : ℕ) (scratch scratch' : List ℕ) → Cycles r s c byte dma_byte scratch o scratch' →
+        Shown a key img m n i (cycle c byte dma_byte scratch) o reg
+    cycle_shown c byte dma_byte scratch scratch' x =
+        cases (tested (test (IsScratch scratch) WrongLength (test (InTcr c.pc → ⊥) CorePc pass)) (running r) s (Judged r s c byte dma_byte) o x.outcome)
+        (refused (cycle c byte dma_byte scratch) (λ right. right))
+        (λ y. judged c byte dma_byte scratch y.0.1.0 y.1)
 
     -- a match: the image that lies there lies in the store, is newer, and the token is its tag
     matches : (first : ℕ) (token scratch : List ℕ) (b : Matched) → Passed (offer_tests (length s.blocks) first token a.size scratch) →
@@ -288,7 +288,7 @@ module _ (a : Meaning) (key : a.Key) (img : List ℕ) (m : Match) (n i : ℕ) wh
       go : (c : Call) → Made a key w c e → Shown a key img m n i c e.outcome e.register
       go (start scratch register) (is, x) = start_shown w.store scratch register w.state e.outcome e.scratch e.register e.state (at cold is) x
       go (stage block bytes) ((r, is, x), _, _, _) = stage_shown w.store r e.outcome e.register (at (running r) is) block bytes x
-      go (cycle c byte dmaByte scratch) ((r, is, x), _, _) = cycle_shown w.store r e.outcome e.register (at (running r) is) c byte dmaByte scratch e.scratch x
+      go (cycle c byte dma_byte scratch) ((r, is, x), _, _) = cycle_shown w.store r e.outcome e.register (at (running r) is) c byte dma_byte scratch e.scratch x
       go (offer first token scratch) ((r, is, x), _) = offer_shown w.store r e.outcome e.register (at (running r) is) first token scratch w.state e.scratch e.state x
       go leave ((b, is, x), _, _, _) = leave_shown w.store b e.outcome e.register (at (matched b) is) x
       go (install scratch register) (b, is, x) = install_shown w.store b e.outcome e.register (at (matched b) is) scratch register w.state e.scratch e.state x

@@ -1,6 +1,6 @@
 -- What a write to one block leaves of an image in others, and how long what lies in a store is.
 use Rattle.std.proofs.Common.{◌≡◌, ℕ, ◌+◌, ◌-◌, ◌*◌, ◌<◌, ◌≤◌, min, ◌≢◌, List, [], ◌∷◌, ◌++◌, length, get_or, take, drop, set, refl, ap, ◌∙◌, ⊎_elim, arith}
-use Rattle.std.specs.List.{flat_map, AllByRecursion as All}
+use Rattle.std.specs.List.{flat_map, AllByRecursion}
 use Rattle.std.proofs.lemmas.List.{length-take, length-drop, length-append, drop-set-lt, drop-set-add, take-set-le, get_or-set_other}
 use Rattle.std.proofs.ByRecursion.{All-take, All-drop}
 use Rattle.std.proofs.lemmas.Bool.{cases_lt}
@@ -14,7 +14,7 @@ use Rattle.board.specs.Stored.{image_at}
 
 -- every block has 512 bytes
 abbrev pub Sized : List (List ℕ) → Type 0
-Sized bs = All (λ (b : List ℕ). length b ≡ 512) bs
+Sized bs = AllByRecursion (λ (b : List ℕ). length b ≡ 512) bs
 
 -- a write outside an image leaves its bytes
 pub image_set : (bs : List (List ℕ)) (b f l : ℕ) (x : List ℕ) → (Fills f l b → ⊥) → image_at (set bs b x) f l ≡ image_at bs f l

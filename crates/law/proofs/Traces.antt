@@ -1,6 +1,6 @@
 -- What becomes of the writes that a call plans.
 use Rattle.std.proofs.Common.{◌≡◌, ℕ, suc, ◌<◌, Bool, true, false, cond, List, [], ◌∷◌, ◌++◌, length, get_or, set, Ok, Err, Result, sym, refl, ap, ◌∙◌, subst, inl, inr, arith}
-use Rattle.std.specs.List.{AllByRecursion as All}
+use Rattle.std.specs.List.{AllByRecursion}
 use Rattle.std.proofs.lemmas.List.{length-set, get_or-set_same, set-get_or}
 use Rattle.std.proofs.ByRecursion.{All-set, All-get_or}
 use Rattle.std.proofs.lemmas.Bool.{true≢false, cond-true, cond-false}
@@ -45,7 +45,7 @@ record Trace (m : Medium) (plan : List Put) (ws : List Write) (r : Result Unit S
 
 -- what comes of writes into blocks of the store
 trace : (n count : ℕ) (m : Medium) (plan : List Put) (ws : List Write) (r : Result Unit Supply) (e : Medium) → Makes n m plan ws r e →
-    length m.blocks ≡ count → Sized m.blocks → All (λ (p : Put). p.block < count) plan → Trace m plan ws r e
+    length m.blocks ≡ count → Sized m.blocks → AllByRecursion (λ (p : Put). p.block < count) plan → Trace m plan ws r e
 trace n count m plan ws r e all size s a = record { performs = all_done; blocks_are = refl; told = refl; live = λ on whole. on }
 trace n count m plan ws r e (next {p = p} {plan = plan'} {ws = ws'} w ms) size s a =
     let t = trace (suc n) count (after m p.block p.bytes true) plan' ws' r e ms (length-set m.blocks p.block p.bytes ∙ size)
@@ -66,7 +66,7 @@ pub record Wrote (m : Medium) (plan : List Put) (said : Answer) (board : Board) 
 
 -- what comes of a call that writes
 pub wrote : (m : Medium) (plan : List Put) (said : Answer) (board : Board) (o : Outcome) → Written m plan said board o →
-    Sized m.blocks → All (λ (p : Put). p.block < length m.blocks) plan → Wrote m plan said board o
+    Sized m.blocks → AllByRecursion (λ (p : Put). p.block < length m.blocks) plan → Wrote m plan said board o
 wrote m plan said board o (r, ms, end) s a = go r (trace 1 (length m.blocks) m plan o.writes r o.store ms refl s a) end
   where
     go : (r : Result Unit Supply) → Trace m plan o.writes r o.store → Ended r said board o → Wrote m plan said board o
@@ -122,7 +122,7 @@ abbrev pub whole : Medium → List Put → Answer → Board → Outcome
 whole m plan said board = record { writes = done_all plan; answer = said; board = board; store = store_after plan m }
 
 -- they can all be made
-makes_all : (n count : ℕ) (m : Medium) (plan : List Put) → m.live ≡ true → length m.blocks ≡ count → All (Fitting count) plan →
+makes_all : (n count : ℕ) (m : Medium) (plan : List Put) → m.live ≡ true → length m.blocks ≡ count → AllByRecursion (Fitting count) plan →
     Makes n m plan (done_all plan) (Ok tt) (store_after plan m)
 makes_all n count m [] on size fits = all
 makes_all n count m (p ∷ plan) on size fits =
@@ -130,6 +130,6 @@ makes_all n count m (p ∷ plan) on size fits =
     (makes_all (suc n) count (after m p.block p.bytes true) plan refl (length-set m.blocks p.block p.bytes ∙ size) fits.1)
 
 -- so a call can make them
-pub whole-written : (m : Medium) (plan : List Put) (said : Answer) (board : Board) → m.live ≡ true → All (Fitting (length m.blocks)) plan →
+pub whole-written : (m : Medium) (plan : List Put) (said : Answer) (board : Board) → m.live ≡ true → AllByRecursion (Fitting (length m.blocks)) plan →
     Written m plan said board (whole m plan said board)
 whole-written m plan said board on fits = (Ok tt, makes_all 1 (length m.blocks) m plan on refl fits, (refl, refl))

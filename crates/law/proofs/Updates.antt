@@ -1,7 +1,7 @@
 -- Where a life ended with a running board, a newer image that finds blocks of its own can be installed: its pages are
 -- staged, it is offered with its token, and installed.
-use Rattle.std.proofs.Common.{◌≡◌, ℕ, ◌+◌, ◌<◌, ◌≤◌, true, List, [], ◌∷◌, ◌++◌, length, replicate, sym, refl, ap, ◌∙◌, subst, ap₂, inr, arith}
-use Rattle.std.specs.List.{AllByRecursion as All}
+use Rattle.std.proofs.Common.{◌≡◌, ℕ, ◌<◌, ◌≤◌, true, List, [], ◌∷◌, ◌++◌, length, replicate, sym, refl, ap, ◌∙◌, subst, ap₂, inr, arith}
+use Rattle.std.specs.List.{AllByRecursion}
 use Rattle.std.proofs.lemmas.List.{length-replicate}
 use Rattle.std.proofs.ByRecursion.{All-drop}
 use Rattle.authenticator.specs.Meaning.{Meaning}
@@ -43,7 +43,7 @@ unfolding zeros
 zeros-length n = length-replicate {A = ℕ} n 0
 
 -- the five writes of an install fit
-installing_fits : (count f l : ℕ) (vs : List ℕ) → 8 ≤ count → length vs ≡ 32 → All (Fitting count) (installing f l vs)
+installing_fits : (count f l : ℕ) (vs : List ℕ) → 8 ≤ count → length vs ≡ 32 → AllByRecursion (Fitting count) (installing f l vs)
 installing_fits count f l vs many long =
     ((pointer_length f l, omega arith), ((flag_length Unfinished, omega arith), closing_fits count f l vs many long))
 
@@ -51,7 +51,7 @@ installing_fits count f l vs many long =
 module _ (a : Meaning) (key : a.Key) (u : World a) (r : Running) (image : List ℕ) (first : ℕ)
     (on : u.board ≡ running r) (live : u.store.live ≡ true) (many : 8 ≤ length u.store.blocks)
     (said : said_at u.store.blocks first ≡ length image) (there : image_in u.store.blocks first ≡ image)
-    (small : All (λ (b : ℕ). b < 256) image) (lies : Lies (length u.store.blocks) first (length image))
+    (small : AllByRecursion (λ (b : ℕ). b < 256) image) (lies : Lies (length u.store.blocks) first (length image))
     (apart : Share first (length image) r.place.first r.place.len → ⊥) (newer : Newer (version_of image) r.version) where
   abbrev s : Medium
   s = u.store

@@ -1,7 +1,7 @@
 -- Bytes, eight to a word.
 use Rattle.std.proofs.Common.{◌≡◌, ℕ, zero, suc, ◌+◌, ◌*◌, ◌/◌, ◌%◌, ◌<◌, List, [], ◌∷◌, ◌++◌, length, sym, refl, ap, ◌∙◌, ap₂, div-one, arith}
 use native.Mathlib.Nat.{div-div-eq-div-mul}
-use Rattle.std.specs.List.{AllByRecursion as All}
+use Rattle.std.specs.List.{AllByRecursion}
 use Rattle.board.specs.States.{eight, bytes_of}
 
 -- a byte of a word, and what is above it
@@ -43,7 +43,7 @@ word_of a b c d e f g h la lb lc ld le lf lg lh =
     (w, (λ i. p0 i ∷ p1 i ∷ p2 i ∷ p3 i ∷ p4 i ∷ p5 i ∷ p6 i ∷ p7 i ∷ []))
 
 -- so there are words for any bytes, eight for each word
-pub words_of : (n : ℕ) (xs : List ℕ) → length xs ≡ 8 * n → All (λ (x : ℕ). x < 256) xs → (ws : List ℕ) × (bytes_of ws ≡ xs)
+pub words_of : (n : ℕ) (xs : List ℕ) → length xs ≡ 8 * n → AllByRecursion (λ (x : ℕ). x < 256) xs → (ws : List ℕ) × (bytes_of ws ≡ xs)
 unfolding bytes_of
 words_of zero [] size small = ([], refl)
 words_of zero (a ∷ xs) size small = absurd (omega arith)

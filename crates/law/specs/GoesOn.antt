@@ -1,6 +1,6 @@
 -- The law is not empty: a life can go on, with its supply kept.
 use Rattle.std.specs.Prelude.{◌≡◌, ℕ, ◌<◌, List, ◌++◌, length}
-use Rattle.std.specs.List.{AllByRecursion as All}
+use Rattle.std.specs.List.{AllByRecursion}
 use Rattle.authenticator.specs.Meaning.{Meaning}
 use Rattle.layout.specs.Image.{IsImage, version_of}
 use Rattle.layout.specs.Placing.{Lies, Share, Newer}
@@ -22,7 +22,7 @@ Restarts a key w =
 abbrev pub Updates : (a : Meaning) → a.Key → List ℕ → World a → List (Event a) → Type 0
 Updates a key factory w h =
     (r : Running) → (after w h).board ≡ running r →
-    (image : List ℕ) (first : ℕ) → All (λ (b : ℕ). b < 256) image → IsImage image →
+    (image : List ℕ) (first : ℕ) → AllByRecursion (λ (b : ℕ). b < 256) image → IsImage image →
     Lies (count_of (after w h).store) first (length image) →
     (Share first (length image) r.place.first r.place.len → ⊥) → Newer (version_of image) r.version →
     (t : List (Event a)) × Life a key w (t ++ h) × (current factory (t ++ h) ≡ image) × (confirmations (t ++ h) ≡ 1)

@@ -61,8 +61,8 @@ Made a key w (start scratch register) e =
 Made a key w (stage block bytes) e =
     ((r : Running) × (w.board ≡ running r) × Stages r w.store block bytes e.outcome)
     × NoScratch e × NoRegister e × NoTag w e
-Made a key w (cycle c byte dmaByte scratch) e =
-    ((r : Running) × (w.board ≡ running r) × Cycles r w.store c byte dmaByte scratch e.outcome e.scratch)
+Made a key w (cycle c byte dma_byte scratch) e =
+    ((r : Running) × (w.board ≡ running r) × Cycles r w.store c byte dma_byte scratch e.outcome e.scratch)
     × NoRegister e × NoTag w e
 Made a key w (offer first token scratch) e =
     ((r : Running) × (w.board ≡ running r)

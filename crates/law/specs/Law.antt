@@ -1,5 +1,5 @@
 -- The law of a board's lifecycle.
-use Rattle.std.specs.Prelude.{◌≡◌, ℕ, suc, ◌<◌, ◌≤◌, Bool, true, false, cond, not, ◌⊎◌, List, [], ◌∷◌, length, get_or}
+use Rattle.std.specs.Prelude.{◌≡◌, ℕ, suc, ◌<◌, ◌≤◌, Bool, true, false, cond, ◌⊎◌, List, [], ◌∷◌}
 use Rattle.authenticator.specs.Meaning.{Meaning, padded}
 use Rattle.layout.specs.Image.{version_of, nonce_of, vectors_of}
 use Rattle.control.specs.Blocks.{formed, flag_block, flag_in}
@@ -18,7 +18,7 @@ use Rattle.board.specs.Stored.{image_in}
 use Rattle.board.specs.Writes as writes
 use Rattle.board.specs.Writes.{Write, was_cut}
 use Rattle.board.specs.Calls.{IsScratch, IsRegister, bytes_at}
-use Rattle.law.specs.History.{Call, start, stage, cycle, offer, leave, install, reset, World, Event, leaves, Life, Loaded}
+use Rattle.law.specs.History.{Call, start, stage, cycle, offer, leave, install, reset, World, Event, Life, Loaded}
 
 -- What an offer brought: the image that lies at its first block, and its token. Other calls bring none.
 pub record Match : Type 0 where
@@ -31,7 +31,7 @@ none = record { image = []; token = [] }
 abbrev pub brought : Call → Medium → Match
 brought (start scratch register) m = none
 brought (stage block bytes) m = none
-brought (cycle c byte dmaByte scratch) m = none
+brought (cycle c byte dma_byte scratch) m = none
 brought (offer first token scratch) m = record { image = image_in m.blocks first; token = token }
 brought leave m = none
 brought (install scratch register) m = none
@@ -67,7 +67,7 @@ second_took (w ∷ writes.cut b x y ∷ ws) = unfinished (flag_in y)
 abbrev pub took_effect : Call → List Write → Bool
 took_effect (start scratch register) ws = false
 took_effect (stage block bytes) ws = false
-took_effect (cycle c byte dmaByte scratch) ws = false
+took_effect (cycle c byte dma_byte scratch) ws = false
 took_effect (offer first token scratch) ws = false
 took_effect leave ws = false
 took_effect (install scratch register) ws = second_took ws

@@ -9,8 +9,8 @@ use authenticator::Authenticator;
 
 /// The law holds for every key of the authenticator, and is not empty. The answer says nothing; the contract does.
 pub fn law_stands<K: Authenticator>() -> u8
-    ensures law { (key : means.Key) → Law means key }
-    ensures open { (key : means.Key) → GoesOn means key }
+    ensures law { (key : K.means.Key) → Law K.means key }
+    ensures open { (key : K.means.Key) → GoesOn K.means key }
 {
     0
 }

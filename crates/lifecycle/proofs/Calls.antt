@@ -1,5 +1,5 @@
 -- Each call, as it was made on a board, is an event.
-use Rattle.std.proofs.Common.{◌≡◌, ℕ, List, [], Some, vec_items, Option, Vec, sym, refl, ap, ◌∙◌, subst}
+use Rattle.std.proofs.Common.{◌≡◌, ℕ, List, [], Some, vec_items, Option, Vec, sym, refl, ap, subst}
 use Rattle.std.specs.declared.alloc.Global.{Global}
 use Rattle.authenticator.specs.Meaning.{Meaning}
 use Rattle.store.specs.Medium.{Medium}
@@ -47,11 +47,11 @@ module _ (a : Meaning) (key : a.Key) (board : Board) (m m' : Medium) (state : a.
       let s' = subst (λ (x : Outcome). Stages r m block (vec_items bytes) x) is (subst (λ (x : List ℕ). Stages r m block x o) e s) in
       (event (stage block (vec_items bytes)) ws said board m' [] [] state, ((r, refl, s'), refl, refl, refl), refl, refl, refl, (refl, refl), (refl, refl))
 
-  pub cycle_made : (scratch' : List ℕ) (r : Running) (c : Signals) (byte dmaByte : ℕ) → Cycles r m c byte dmaByte scratch o scratch' →
-      Performed a key (bench (running r) m state scratch register) (call.Cycle c byte dmaByte) (Some said) (bench board m' state scratch' register)
-  cycle_made scratch' r c byte dmaByte s =
-      let s' = subst (λ (x : Outcome). Cycles r m c byte dmaByte scratch x scratch') is s in
-      (event (cycle c byte dmaByte scratch) ws said board m' scratch' [] state, ((r, refl, s'), refl, refl), refl, refl, refl, refl, (refl, refl))
+  pub cycle_made : (scratch' : List ℕ) (r : Running) (c : Signals) (byte dma_byte : ℕ) → Cycles r m c byte dma_byte scratch o scratch' →
+      Performed a key (bench (running r) m state scratch register) (call.Cycle c byte dma_byte) (Some said) (bench board m' state scratch' register)
+  cycle_made scratch' r c byte dma_byte s =
+      let s' = subst (λ (x : Outcome). Cycles r m c byte dma_byte scratch x scratch') is s in
+      (event (cycle c byte dma_byte scratch) ws said board m' scratch' [] state, ((r, refl, s'), refl, refl), refl, refl, refl, refl, (refl, refl))
 
   pub offer_made : (state' : a.State) (scratch' : List ℕ) (r : Running) (first : ℕ) (token : Vec ℕ Global) (lent : List ℕ) → lent ≡ vec_items token →
       Offers a key r m first lent scratch state o scratch' state' →

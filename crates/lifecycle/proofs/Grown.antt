@@ -17,7 +17,7 @@ use Rattle.lifecycle.specs.declared.journal.Call.{Call}
 use Rattle.lifecycle.specs.declared.journal.Entry.{Entry}
 use Rattle.lifecycle.specs.declared.journal.Standing.{Standing}
 use Rattle.lifecycle.specs.Journal.{board_of, board_in, call_of, kept_of, Tells, Told, nothing, more}
-use Rattle.lifecycle.specs.Lived.{Lived, world, Bench, bench, Performed, Notes, Grows, Used, uses_register, shown_by}
+use Rattle.lifecycle.specs.Lived.{Lived, world, Bench, bench, Performed, Grows, Used, uses_register, shown_by}
 
 module _ (a : Meaning) (key : a.Key) (factory : List ℕ) where
   -- a load begins one

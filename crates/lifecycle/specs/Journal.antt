@@ -29,7 +29,7 @@ board_in (standing.Matched p v q w n vectors) =
 abbrev pub call_of : Call → List ℕ → List ℕ → history.Call
 call_of Start scratch register = history.start scratch register
 call_of (Stage block bytes) scratch register = history.stage block (vec_items bytes)
-call_of (Cycle c byte dmaByte) scratch register = history.cycle c byte dmaByte scratch
+call_of (Cycle c byte dma_byte) scratch register = history.cycle c byte dma_byte scratch
 call_of (Offer first token) scratch register = history.offer first (vec_items token) scratch
 call_of Leave scratch register = history.leave
 call_of Install scratch register = history.install scratch register

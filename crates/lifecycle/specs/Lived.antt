@@ -63,7 +63,7 @@ is_matched (matched b) = true
 abbrev pub fits : Call → Board → Bool
 fits Start board = is_cold board
 fits (Stage block bytes) board = is_running board
-fits (Cycle c byte dmaByte) board = is_running board
+fits (Cycle c byte dma_byte) board = is_running board
 fits (Offer first token) board = is_running board
 fits Leave board = is_matched board
 fits Install board = is_matched board
@@ -72,7 +72,7 @@ fits Reset board = true
 abbrev pub uses_scratch : Call → Bool
 uses_scratch Start = true
 uses_scratch (Stage block bytes) = false
-uses_scratch (Cycle c byte dmaByte) = true
+uses_scratch (Cycle c byte dma_byte) = true
 uses_scratch (Offer first token) = true
 uses_scratch Leave = false
 uses_scratch Install = true
@@ -81,7 +81,7 @@ uses_scratch Reset = false
 abbrev pub uses_register : Call → Bool
 uses_register Start = true
 uses_register (Stage block bytes) = false
-uses_register (Cycle c byte dmaByte) = false
+uses_register (Cycle c byte dma_byte) = false
 uses_register (Offer first token) = false
 uses_register Leave = false
 uses_register Install = true

@@ -32,7 +32,7 @@ pub struct Reply {
 pub trait Driver<S: Store> {
     /// The next call, or the end. It may look at the store and plan cuts, and leaves what the store means as it is.
     fn next(&mut self, last: Reply, store: &mut S, register: &[u8]) -> Option<Order>
-        ensures { medium store.new ≡ medium store.old };
+        ensures { S.medium store.new ≡ S.medium store.old };
 }
 
 impl<S: Store, K: Authenticator> Life<S, K> {
@@ -43,7 +43,7 @@ impl<S: Store, K: Authenticator> Life<S, K> {
         answer: Option<Answer>,
         register: &[u8],
     ) -> Option<Order>
-        ensures lawful { Lawful medium means key state self.old → Lawful medium means key state self.new }
+        ensures lawful { Lawful S.medium K.means K.key K.state self.old → Lawful S.medium K.means K.key K.state self.new }
         ensures key { self.new.authenticator ≡ self.old.authenticator }
         ensures factory { self.new.factory ≡ self.old.factory }
     {
@@ -62,8 +62,8 @@ impl<S: Store, K: Authenticator> Life<S, K> {
         scratch: &mut [u8],
         register: &mut [u8],
     ) -> Result<(), AllocError>
-        ensures lawful { Lawful medium means key state self.old → Lawful medium means key state self.new }
-        ensures key { key self.new.authenticator ≡ key self.old.authenticator }
+        ensures lawful { Lawful S.medium K.means K.key K.state self.old → Lawful S.medium K.means K.key K.state self.new }
+        ensures key { K.key self.new.authenticator ≡ K.key self.old.authenticator }
         ensures factory { self.new.factory ≡ self.old.factory }
         ensures scratch { scratch.new ≡ cleared scratch.old }
         ensures register { register.new ≡ cleared register.old }
@@ -80,8 +80,8 @@ impl<S: Store, K: Authenticator> Life<S, K> {
         scratch: &mut [u8],
         register: &mut [u8],
     ) -> Result<(), AllocError>
-        ensures lawful { Lawful medium means key state self.old → Lawful medium means key state self.new }
-        ensures key { key self.new.authenticator ≡ key self.old.authenticator }
+        ensures lawful { Lawful S.medium K.means K.key K.state self.old → Lawful S.medium K.means K.key K.state self.new }
+        ensures key { K.key self.new.authenticator ≡ K.key self.old.authenticator }
         ensures factory { self.new.factory ≡ self.old.factory }
     {
         let mut answer = None;
@@ -108,7 +108,7 @@ pub fn live<S: Store, K: Authenticator, D: Driver<S>>(
     scratch: &mut [u8],
     register: &mut [u8],
 ) -> Result<(Life<S, K>, Result<(), AllocError>), Unbegun<S, K>>
-    ensures { Lasts medium means key state (medium store) authenticator factory.items scratch.old register.old result scratch.new register.new }
+    ensures { Lasts S.medium K.means K.key K.state (S.medium store) authenticator factory.items scratch.old register.old result scratch.new register.new }
 {
     let mut life = Life::begin(heap, store, authenticator, factory, scratch)?;
     let ended = life.run(driver, scratch, register);

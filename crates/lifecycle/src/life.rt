@@ -39,7 +39,7 @@ impl<S: Store, K: Authenticator> Life<S, K> {
         factory: Vec<u8>,
         scratch: &mut [u8],
     ) -> Result<Life<S, K>, Unbegun<S, K>>
-        ensures { Begins medium means key state (medium store) authenticator factory.items scratch.old result scratch.new }
+        ensures { Begins S.medium K.means K.key K.state (S.medium store) authenticator factory.items scratch.old result scratch.new }
     {
         let mut store = store;
         // Every block has 512 bytes: the count promises it.
@@ -74,9 +74,9 @@ impl<S: Store, K: Authenticator> Life<S, K> {
         scratch: &mut [u8],
         register: &mut [u8],
     ) -> Result<Option<Answer>, AllocError>
-        ensures lawful { Lawful medium means key state self.old → Lawful medium means key state self.new }
-        ensures made { Lives medium means key state self.old call scratch.old register.old result self.new scratch.new register.new }
-        ensures key { key self.new.authenticator ≡ key self.old.authenticator }
+        ensures lawful { Lawful S.medium K.means K.key K.state self.old → Lawful S.medium K.means K.key K.state self.new }
+        ensures made { Lives S.medium K.means K.key K.state self.old call scratch.old register.old result self.new scratch.new register.new }
+        ensures key { K.key self.new.authenticator ≡ K.key self.old.authenticator }
         ensures factory { self.new.factory ≡ self.old.factory }
     {
         self.journal.reserve(1)?;

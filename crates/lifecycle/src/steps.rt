@@ -19,8 +19,8 @@ pub(crate) fn step<S: Store, K: Authenticator>(
     scratch: &mut [u8],
     register: &mut [u8],
 ) -> (Board, Option<Answer>)
-    ensures made { Performed means (key authenticator.old) (bench (board_of board) (medium store.old) (state authenticator.old) scratch.old register.old) call.now result.1 (bench (board_of result.0) (medium store.new) (state authenticator.new) scratch.new register.new) }
-    ensures key { key authenticator.new ≡ key authenticator.old }
+    ensures made { Performed K.means (K.key authenticator.old) (bench (board_of board) (S.medium store.old) (K.state authenticator.old) scratch.old register.old) call.now result.1 (bench (board_of result.0) (S.medium store.new) (K.state authenticator.new) scratch.new register.new) }
+    ensures key { K.key authenticator.new ≡ K.key authenticator.old }
 {
     match call {
         Call::Start => match board {

@@ -1,4 +1,2 @@
-mod Erased
-mod Formed
 mod Offered
 mod Stand

@@ -1,15 +1,11 @@
 -- What an offer answers, test by test.
-use Rattle.std.proofs.Common.{◌≡◌, ℕ, ◌≤◌, true, false, ◌⊎◌, List, sym, refl, ap, ◌∙◌, inl, inr, arith}
-use Rattle.refusal.specs.declared.Refusal.{Refusal}
+use Rattle.std.proofs.Common.{◌≡◌, ℕ, ◌≤◌, true, false, ◌⊎◌, sym, refl, ap, ◌∙◌, inl, inr, arith}
 use Rattle.refusal.specs.declared.Refusal.TheVariants as refusal
 use Rattle.authenticator.specs.Meaning.{Meaning}
 use Rattle.layout.specs.Placing.{Open, GoesPast, Share, Newer}
 use Rattle.store.specs.Medium.{Medium}
-use Rattle.board.specs.declared.answers.Answer.{Answer}
-use Rattle.board.specs.declared.answers.Answer.TheVariants as answer
 use Rattle.board.specs.declared.states.Running.{Running}
-use Rattle.board.specs.States as states
-use Rattle.board.specs.Tests.{Outcome, quiet}
+use Rattle.board.specs.Tests.{Outcome}
 use Rattle.board.specs.Calls.{count_of}
 use Rattle.offer_edges.specs.Edges.{Offering, said, version, Answered, Refused, PastVersion, PastBlocks, PastLength}
 

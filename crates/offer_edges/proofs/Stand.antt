@@ -1,24 +1,11 @@
--- Each edge stands.
-use Rattle.std.proofs.Common.{ℕ, refl, inl, inr, arith, rules}
+-- Each edge of an offer stands.
+use Rattle.std.proofs.Common.{arith}
 use Rattle.authenticator.specs.Meaning.{Meaning}
-use Rattle.offer_edges.specs.Edges.{board, higher, Edges}
-use Rattle.offer_edges.proofs.Erased.{zeros_fall, ones_fall}
+use Rattle.offer_edges.specs.Edges.{board, higher, OfferEdges}
 use Rattle.offer_edges.proofs.Offered.{out_of_range, bad_image, past_length, running_block, past_blocks, not_newer, past_version}
 
-pub edges : (a : Meaning) (key : a.Key) → Edges a key
+pub edges : (a : Meaning) (key : a.Key) → OfferEdges a key
 edges a key = record {
-  last_block = (omega arith, (λ h. omega arith));
-  last_block_from = refl;
-  last_block_to = refl;
-  program_begins = refl;
-  last_byte = search rules;
-  past_last_byte = search rules;
-  tail = (inl (omega arith, (10751, inl (refl, refl), inr (omega arith, omega arith))), refl);
-  past_tail = search rules;
-  flag = (inl (omega arith, (9216, inr (refl, refl), inl (omega arith, omega arith))), refl);
-  past_flag = search rules;
-  one_block = refl;
-  two_blocks = refl;
   control_block = λ x. out_of_range a key board 3 x (λ h. omega arith);
   no_block = λ x. out_of_range a key board 8 x (λ h. omega arith);
   past_end = λ x e. bad_image a key board 7 x (omega arith, omega arith) (λ h. h.1 (omega (arith, e)));
@@ -37,7 +24,4 @@ edges a key = record {
   unshared = λ x e.
       past_blocks a key higher 4 x (omega arith, omega arith) (omega (arith, e)) (λ h. omega (arith, e, h))
       (λ h. omega (arith, e, h.1.1, h.2.0));
-  published = refl;
-  zeros = zeros_fall;
-  ones = ones_fall;
 }

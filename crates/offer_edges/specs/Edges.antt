@@ -1,21 +1,12 @@
--- The edges of the rules, on one board: an image of 46 bytes and version 7 runs from block 4 on, in a store of 8 blocks.
-use Rattle.std.specs.Prelude.{◌≡◌, ℕ, true, false, ◌⊎◌, List, length, replicate, Some, codes, Option}
+-- The edges of the rules of an offer, on one board: an image of 46 bytes and version 7 runs from block 4 on, in a store of 8 blocks.
+use Rattle.std.specs.Prelude.{◌≡◌, ℕ, true, ◌⊎◌, List, length}
 use Rattle.std.proofs.Common.{lit≤}
 use Rattle.refusal.specs.declared.Refusal.{Refusal}
 use Rattle.refusal.specs.declared.Refusal.TheVariants as refusal
 use Rattle.authenticator.specs.Meaning.{Meaning}
-use Rattle.layout.specs.Address.{Addressed, address_of, blocks_of, entry}
 use Rattle.layout.specs.declared.place.Place.{Place}
 use Rattle.layout.specs.Image.{version_of}
-use Rattle.layout.specs.Placing.{Share}
-use Rattle.control.specs.Blocks.{Stands}
-use Rattle.control.specs.Crc.{crc_of}
-use Rattle.control.specs.declared.kind.Control.{Control}
 use Rattle.store.specs.Medium.{Medium}
-use Rattle.watch.specs.declared.cycle.Cycle.{Cycle}
-use Rattle.watch.specs.declared.cycle.Verdict.TheVariants as verdict
-use Rattle.watch.specs.declared.cycle.Watch.TheVariants as watch
-use Rattle.watch.specs.Rules.{Judges}
 use Rattle.board.specs.declared.answers.Answer.{Answer}
 use Rattle.board.specs.declared.answers.Answer.TheVariants as answer
 use Rattle.board.specs.declared.states.Running.{Running}
@@ -26,26 +17,6 @@ use Rattle.board.specs.Calls.{count_of, IsScratch, Offers}
 
 abbrev pub place : Place
 place = record { first = 4; len = 46; lies = (lit≤ tt, lit≤ tt, lit≤ tt) }
-
-abbrev pub running : Option Place
-running = Some place
-
--- A cycle that executes at this address; one at the entry in which the core writes to it, or DMA.
-abbrev pub executes : ℕ → Cycle
-executes pc = record { pc = pc; writes = false; write_at = 0; dma = false; dma_at = 0; interrupt = false }
-
-abbrev pub writes : ℕ → Cycle
-writes address = record { pc = 10252; writes = true; write_at = address; dma = false; dma_at = 0; interrupt = false }
-
-abbrev pub moves : ℕ → Cycle
-moves address = record { pc = 10252; writes = false; write_at = 0; dma = true; dma_at = address; interrupt = false }
-
--- The watch, outside TCR, lets a cycle pass, or resets.
-abbrev pub Passes : Cycle → Type 0
-Passes c = Judges running watch.Outside c verdict.Pass watch.Outside
-
-abbrev pub Resets : Cycle → Type 0
-Resets c = Judges running watch.Outside c verdict.Reset watch.Reset
 
 -- The running state; and one where the same image runs from block 6 on.
 abbrev pub board : Running
@@ -95,21 +66,7 @@ PastBlocks y = (y ≡ answer.Refused refusal.NotNewer) ⊎ PastVersion y
 abbrev pub PastLength : Answer → Type 0
 PastLength y = (y ≡ answer.Refused refusal.RunningBlock) ⊎ PastBlocks y
 
-pub record Edges (a : Meaning) (key : a.Key) : Type 0 where
-  -- The last block with addresses is 111, from 65024 to 65535.
-  pub last_block : Addressed 111 × (Addressed 112 → ⊥)
-  pub last_block_from : address_of 111 0 ≡ 65024
-  pub last_block_to : address_of 111 511 ≡ 65535
-  pub program_begins : entry 4 ≡ 10252
-  -- The image is executable to its last byte, and guarded to the end of its block; the control blocks to the flag.
-  pub last_byte : Passes (executes 10285)
-  pub past_last_byte : Resets (executes 10286)
-  pub tail : Resets (writes 10751)
-  pub past_tail : Passes (writes 10752)
-  pub flag : Resets (moves 9216)
-  pub past_flag : Passes (moves 9728)
-  pub one_block : blocks_of 512 ≡ 1
-  pub two_blocks : blocks_of 513 ≡ 2
+pub record OfferEdges (a : Meaning) (key : a.Key) : Type 0 where
   -- Blocks 4 to 7 may be offered, and no other.
   pub control_block : (x : Offering a 3) → Refused a key board 3 x refusal.BlockRange
   pub no_block : (x : Offering a 8) → Refused a key board 8 x refusal.BlockRange
@@ -123,8 +80,3 @@ pub record Edges (a : Meaning) (key : a.Key) : Type 0 where
   -- An image at block 4 reaches one that runs at block 6 with its third block.
   pub shared : (x : Offering a 4) → said x ≡ 1025 → Refused a key higher 4 x refusal.RunningBlock
   pub unshared : (x : Offering a 4) → said x ≡ 1024 → Answered a key higher 4 x PastBlocks
-  -- The published check value of the CRC.
-  pub published : crc_of (codes "123456789") ≡ 0x29B1
-  -- Erased blocks are no control blocks, of any kind.
-  pub zeros : (kind : Control) → Stands kind (replicate 512 0) → ⊥
-  pub ones : (kind : Control) → Stands kind (replicate 512 0xFF) → ⊥

@@ -1,22 +1,14 @@
-//! Theorems over the definitions that contracts cite. The answers say nothing; the contracts do.
+//! A theorem over the definitions that the contract of an offer cites. The answer says nothing; the contract does.
 
 #![tactic(auto)]
 
-ghost use Rattle.offer_edges.specs.Edges.{Edges};
-ghost use Rattle.offer_edges.specs.ReadsBack.{ReadsBack};
+ghost use Rattle.offer_edges.specs.Edges.{OfferEdges};
 
 use authenticator::Authenticator;
 
-/// Each edge of the rules stands.
-pub fn edges_stand<K: Authenticator>() -> u8
-    ensures { (key : means.Key) → Edges means key }
-{
-    0
-}
-
-/// Control blocks read back as what they were formed of.
-pub fn blocks_read_back() -> u8
-    ensures { ReadsBack }
+/// Each edge of the rules of an offer stands.
+pub fn offer_edges_stand<K: Authenticator>() -> u8
+    ensures { (key : K.means.Key) → OfferEdges K.means key }
 {
     0
 }

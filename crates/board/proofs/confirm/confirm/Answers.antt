@@ -13,5 +13,5 @@ returns g c =
       register = fed_confirmation A.means (A.key c.args.authenticator.now) _ _ _ _ _ _ _ _ c.args.version _ c.args.nonce _
           c.open.ensures.key c.feed.ensures.key c.feed-2.ensures.key c.feed-3.ensures.key
           c.open.ensures.state c.feed.ensures.state c.feed-2.ensures.state c.feed-3.ensures.state
-          c.to-le-bytes.ensures done.out;
+          c.to_le_bytes.ensures done.out;
     }

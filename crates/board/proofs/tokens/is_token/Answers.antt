@@ -7,10 +7,10 @@ returns g c =
     let A = g.K.Authenticator in
     let k = A.key c.args.authenticator.now in
     let done = c.in-Ok.ensures in
-    let same = c.feed-image.ensures.key ∙ c.feed.ensures.key ∙ c.open.ensures.key in
-    let front = fed_token A.means k _ _ _ _ _ _ _ c.close.new.out c.tag-len.result
-    c.open.ensures.key c.feed.ensures.key c.feed-image.ensures.key
-    c.open.ensures.state c.feed.ensures.state c.feed-image.ensures.state done.out c.tag-len.ensures.value in
+    let same = c.feed_image.ensures.key ∙ c.feed.ensures.key ∙ c.open.ensures.key in
+    let front = fed_token A.means k _ _ _ _ _ _ _ c.close.new.out c.tag_len.result
+    c.open.ensures.key c.feed.ensures.key c.feed_image.ensures.key
+    c.open.ensures.state c.feed.ensures.state c.feed_image.ensures.state done.out c.tag_len.ensures.value in
     record {
       key = done.key ∙ same;
       state = done.closed ∙ ap A.means.begin same;

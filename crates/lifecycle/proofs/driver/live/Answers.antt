@@ -4,7 +4,7 @@ use Rattle.lifecycle.proofs.driver.live.Goals as goal
 
 pub returns : goal.returns
 returns g c =
-    let b = c.in-ok-life.ensures in
+    let b = c.in_ok-life.ensures in
     let t = c.run-ended.ensures in (
       t.lawful b.0,
       t.key ∙ ap g.K.Authenticator.key b.1,

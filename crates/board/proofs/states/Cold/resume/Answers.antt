@@ -1,4 +1,4 @@
-use Rattle.std.proofs.Common.{◌≡◌, [], refl, ◌∙◌, arith}
+use Rattle.std.proofs.Common.{[], refl, ◌∙◌, arith}
 use Rattle.board.specs.Results.{started}
 use Rattle.board.proofs.Cleared.{cleared_same}
 use Rattle.board.proofs.Resuming.{awake, finished_start, unfinished_start}

@@ -1,4 +1,4 @@
-use Rattle.std.proofs.Common.{[], ap, inl, inr}
+use Rattle.std.proofs.Common.{[], ap, inr}
 use Rattle.board.specs.declared.answers.Answer.TheVariants.{Runs}
 use Rattle.board.specs.declared.answers.Launch.{Launch}
 use Rattle.board.specs.States.{running}
@@ -9,7 +9,7 @@ pub returns : goal.returns
 returns g c =
     let m = g.S.Store.medium c.args.store.now in
     inr (inr (
-      c.vectors_stand.ensures.0 c.if-not-vectors-stand.false,
+      c.vectors_stand.ensures.0 c.if-not-vectors_stand.false,
       (
         c.args.running,
         c.requires.1.1.1,

@@ -1,4 +1,4 @@
-use Rattle.std.proofs.Common.{refl, ◌∙◌, arith, rules}
+use Rattle.std.proofs.Common.{refl, ◌∙◌, arith}
 use Rattle.board.proofs.Cleared.{cleared_same}
 use Rattle.board.proofs.Installing.{install_done, install_cut}
 use Rattle.board.proofs.states.Matched.install.Goals as goal
@@ -8,7 +8,7 @@ returns-in-Ok g c =
     let A = g.K.Authenticator in
     let k = A.key c.args.authenticator.now in
     let m = g.S.Store.medium c.args.store.now in
-    let e = g.S.Store.medium c.write-install-written.new.store in
+    let e = g.S.Store.medium c.write_install-written.new.store in
     let done = c.succeed.ensures in
     record {
       key = done.key;
@@ -22,7 +22,7 @@ returns-in-Err g c =
     let A = g.K.Authenticator in
     let k = A.key c.args.authenticator.now in
     let m = g.S.Store.medium c.args.store.now in
-    let e = g.S.Store.medium c.write-install-written.new.store in
+    let e = g.S.Store.medium c.write_install-written.new.store in
     record {
       key = refl;
       call = install_cut A.means k c.args.self m e c.args.scratch.now c.args.register.now _ _ (A.state c.args.authenticator.now) _

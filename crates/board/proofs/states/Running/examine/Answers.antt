@@ -11,6 +11,6 @@ returns-in-Ok g c =
     record {
       key = done.key;
       call = offer_matches A.means k c.args.self m c.args.first _ c.args.token.now c.args.scratch.now (A.state c.args.authenticator.now) _
-          c.requires c.count.ensures.number (c.is-open.ensures.0 c.if-not-is-open.false) (c.if-token-tag-len.false ∙ c.tag-len.ensures.value)
-          c.in-default.ensures.0.1 c.in-Ok.place _ c.take.result done.answer c.take.ensures done.state;
+          c.requires c.count.ensures.number (c.is_open.ensures.0 c.if-not-is_open.false) (c.if-token-tag_len.false ∙ c.tag_len.ensures.value)
+          c.in_default.ensures.0.1 c.in-Ok.place _ c.take.result done.answer c.take.ensures done.state;
     }

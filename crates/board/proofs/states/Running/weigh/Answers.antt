@@ -4,16 +4,16 @@ use Rattle.std.proofs.lemmas.Bool.{both_ways}
 use Rattle.board.proofs.Offering.{barred, untried, accepted, rejected}
 use Rattle.board.proofs.states.Running.weigh.Goals as goal
 
-pub returns-in-err-place : goal.returns-in-err-place
-returns-in-err-place g c =
+pub returns-in_err-place : goal.returns-in_err-place
+returns-in_err-place g c =
     let A = g.K.Authenticator in
     let k = A.key c.args.authenticator.now in
     let m = g.S.Store.medium c.args.store.now in
-    let x = c.from-residual.result in
-    let p = err_from_is_err_and x c.from-residual.ensures.1 in
-    let q = c.in-err-place.field-0.0 in
+    let x = c.from_residual.result in
+    let p = err_from_is_err_and x c.from_residual.ensures.1 in
+    let q = c.in_err-place.field-0.0 in
     let is = p.1 ∙ ap Err p.2 in
-    let f = c.in-err-place.ensures in
+    let f = c.in_err-place.ensures in
     record {
       key = refl;
       state = untried A.means k c.args.self.now m c.args.first c.args.token.now c.requires.1.0.1 c.requires.1.1.0
@@ -22,27 +22,27 @@ returns-in-err-place g c =
           c.args.header _ c.requires.1.1.1 c.count.ensures.number x q is f;
     }
 
-pub returns-then-is-token : goal.returns-then-is-token
-returns-then-is-token g c =
+pub returns-then-is_token : goal.returns-then-is_token
+returns-then-is_token g c =
     let A = g.K.Authenticator in
-    let done = c.is-token.ensures in
+    let done = c.is_token.ensures in
     record {
       key = done.key;
       state = done.state;
       answer = accepted A.means _ c.args.self.now (g.S.Store.medium c.args.store.now) c.args.first c.args.token.now
           c.requires.1.0.1 c.requires.1.1.0 c.args.header _ c.requires.1.1.1 c.count.ensures.number
-          c.in-ok-place.place c.in-ok-place.ensures (done.answer.0 c.if-is-token.true);
+          c.in_ok-place.place c.in_ok-place.ensures (done.answer.0 c.if-is_token.true);
     }
 
-pub returns-else-is-token : goal.returns-else-is-token
-returns-else-is-token g c =
+pub returns-else-is_token : goal.returns-else-is_token
+returns-else-is_token g c =
     let A = g.K.Authenticator in
-    let done = c.is-token.ensures in
+    let done = c.is_token.ensures in
     record {
       key = done.key;
       state = done.state;
       answer = rejected A.means _ c.args.self.now (g.S.Store.medium c.args.store.now) c.args.first c.args.token.now
           c.requires.1.0.1 c.requires.1.1.0 c.args.header _ c.requires.1.1.1 c.count.ensures.number
-          c.in-ok-place.place c.in-ok-place.ensures
-          (λ e. both_ways c.is-token.result c.if-is-token.false (done.answer.1 e));
+          c.in_ok-place.place c.in_ok-place.ensures
+          (λ e. both_ways c.is_token.result c.if-is_token.false (done.answer.1 e));
     }

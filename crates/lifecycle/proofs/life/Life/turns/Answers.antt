@@ -1,8 +1,8 @@
 use Rattle.std.proofs.Common.{ap, ◌∙◌}
 use Rattle.lifecycle.proofs.life.Life.turns.Goals as goal
 
-pub returns-in-default : goal.returns-in-default
-returns-in-default g c =
+pub returns-in_default : goal.returns-in_default
+returns-in_default g c =
     let v = c.loop.invariant in
     let a = c.ask.ensures in
     record {
@@ -11,8 +11,8 @@ returns-in-default g c =
       factory = a.factory ∙ v.2;
     }
 
-pub returns-in-err-answer : goal.returns-in-err-answer
-returns-in-err-answer g c =
+pub returns-in_err-answer : goal.returns-in_err-answer
+returns-in_err-answer g c =
     let v = c.loop.invariant in
     let a = c.ask.ensures in
     let p = c.perform.ensures in

@@ -1,5 +1,5 @@
 use Rattle.offer_edges.proofs.Stand.{edges}
-use Rattle.offer_edges.proofs.edges_stand.Goals as goal
+use Rattle.offer_edges.proofs.offer_edges_stand.Goals as goal
 
 pub returns : goal.returns
 returns g c = edges g.K.Authenticator.means
