@@ -144,7 +144,11 @@ impl Store for ChipStore<'_> {
 impl Planned for ChipStore<'_> {
     type Plan = usize;
 
-    fn plan(&mut self, plan: usize) {
+    fn plan(&mut self, plan: usize)
+        ensures meaning { meaning (chip_bank self.new) ≡ meaning (chip_bank self.old) }
+        ensures own { chip_bank self.new ≡ planned (chip_bank self.old) plan }
+        ensures named { self.new.memory.ghost_name ≡ self.old.memory.ghost_name }
+    {
         self.set_plan(plan);
     }
 }

@@ -151,7 +151,11 @@ impl Store for PlainStore<'_> {
 impl Planned for PlainStore<'_> {
     type Plan = CutPlan;
 
-    fn plan(&mut self, plan: CutPlan) {
+    fn plan(&mut self, plan: CutPlan)
+        ensures meaning { meaning (plain_bank self.new) ≡ meaning (plain_bank self.old) }
+        ensures own { plain_bank self.new ≡ planned (plain_bank self.old) plan }
+        ensures named { self.new.memory.ghost_name ≡ self.old.memory.ghost_name }
+    {
         self.set_plan(plan);
     }
 }
