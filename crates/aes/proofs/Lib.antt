@@ -3,3 +3,4 @@ pub mod Rules
 pub mod Steps
 pub mod Rounds
 pub mod Expansion
+pub mod Made

@@ -1,7 +1,7 @@
 -- The steps of a round, on the state as four words.
-use Rattle.std.proofs.Common.{◌≡◌, ℕ, ◌+◌, ◌*◌, ◌/◌, ◌%◌, ◌^◌, ◌<◌, List, [], ◌∷◌, ◌++◌, map, length, get_or, sym, refl, ap, ◌∙◌, add-zero}
+use Rattle.std.proofs.Common.{◌≡◌, ℕ, ◌+◌, ◌*◌, ◌/◌, ◌%◌, ◌^◌, ◌<◌, List, [], ◌∷◌, ◌++◌, map, length, get_or, sym, subst, refl, ap, ◌∙◌}
 use lib.Bits.{bit_or, bit_xor}
-use Rattle.std.specs.List.{range_with_len}
+use Rattle.std.specs.List.{range_with_len, flat_map}
 use Rattle.std.proofs.lemmas.List.FromFn.{fill_by_all}
 use Rattle.aes.specs.Field.{sbox}
 use Rattle.aes.specs.Words.{word, bytes_of, columns}
@@ -28,16 +28,19 @@ pub loaded : (x y z w : ℕ) (block : List ℕ) → length block ≡ 16
     → columns (x ∷ y ∷ z ∷ w ∷ []) ≡ block
 loaded x y z w block long e f g h = by_columns x y z w e f g h ∙ sixteen block long
 
+-- four words one after another as bytes
+pub stored : (s : List ℕ) → length s ≡ 4 → flat_map (λ b. b) (map bytes_of s) ≡ columns s
+unfolding columns
+stored s long =
+    let four : map (λ k. get_or s k 0) (range_with_len 0 4) ≡ s = sym (fill_by_all (λ k. get_or s k 0) s 4 0 long (λ k h. refl)) in
+    subst (λ l. flat_map (λ b. b) (map bytes_of l) ≡ columns l) four refl
+
 -- AddRoundKey takes one word from each column's place
 pub key_added : (s w : List ℕ) (n : ℕ)
-    → columns (bit_xor (get_or s 0 0) (get_or w (4 * n) 0) ∷ bit_xor (get_or s 1 0) (get_or w (4 * n + 1) 0)
-    ∷ bit_xor (get_or s 2 0) (get_or w (4 * n + 2) 0) ∷ bit_xor (get_or s 3 0) (get_or w (4 * n + 3) 0) ∷ [])
-    ≡ add_round_key (columns s) w n
+    → columns (map (λ c. bit_xor (get_or s c 0) (get_or w (4 * n + c) 0)) (range_with_len 0 4)) ≡ add_round_key (columns s) w n
 unfolding columns add_round_key
 key_added s w n =
-    ap (λ k. columns (bit_xor (get_or s 0 0) (get_or w k 0) ∷ bit_xor (get_or s 1 0) (get_or w (4 * n + 1) 0)
-    ∷ bit_xor (get_or s 2 0) (get_or w (4 * n + 2) 0) ∷ bit_xor (get_or s 3 0) (get_or w (4 * n + 3) 0) ∷ [])) (sym (add-zero (4 * n)))
-    ∙ by_columns _ _ _ _
+    by_columns _ _ _ _
     (xor_bytes (get_or s 0 0) (get_or w (4 * n + 0) 0)) (xor_bytes (get_or s 1 0) (get_or w (4 * n + 1) 0))
     (xor_bytes (get_or s 2 0) (get_or w (4 * n + 2) 0)) (xor_bytes (get_or s 3 0) (get_or w (4 * n + 3) 0))
 

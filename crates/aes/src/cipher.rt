@@ -29,8 +29,9 @@ fn encrypt(keys: &[u32; 44], block: [u8; 16]) -> [u8; 16]
     ensures { result ≡ encrypted keys.now block }
 {
     let mut s = add_round_key(load(&block), keys, 0);
-    for n in 0..9usize {
-        let next = add_round_key(sub_shift_mix(s), keys, n + 1);
+    // By index: a round takes its key by its number.
+    for n in 1..10usize {
+        let next = add_round_key(sub_shift_mix(s), keys, n);
         s = next;
     }
     store(add_round_key(sub_shift(s), keys, 10))

@@ -6,12 +6,14 @@ ghost use Rattle.aes.specs.Words.{word, byte, bytes_of, columns};
 ghost use Rattle.aes.specs.Cipher.{mixed, sub_bytes, shift_rows, mix_columns, add_round_key, key_words};
 
 use crate::tables::{mix, sub};
+use std::array;
 
 /// The columns of a block.
 pub(crate) fn load(block: &[u8; 16]) -> [u32; 4]
     ensures words { result ≡ key_words block.now }
     ensures columns { columns result ≡ block.now }
 {
+    // Written out: each column takes four bytes, and its contract names them.
     [
         column(block[0], block[1], block[2], block[3]),
         column(block[4], block[5], block[6], block[7]),
@@ -28,17 +30,14 @@ pub(crate) fn column(a: u8, b: u8, c: u8, d: u8) -> u32
     u32::from_be_bytes([a, b, c, d])
 }
 
+// SHA-256 writes its words in the same way. No crate stands below both, and one for three lines would be no plainer.
 /// The block whose columns are `s`.
 pub(crate) fn store(s: [u32; 4]) -> [u8; 16]
     ensures { result ≡ columns s }
 {
-    let [a0, a1, a2, a3] = s[0].to_be_bytes();
-    let [b0, b1, b2, b3] = s[1].to_be_bytes();
-    let [c0, c1, c2, c3] = s[2].to_be_bytes();
-    let [d0, d1, d2, d3] = s[3].to_be_bytes();
-    [
-        a0, a1, a2, a3, b0, b1, b2, b3, c0, c1, c2, c3, d0, d1, d2, d3,
-    ]
+    let mut block = [0; 16];
+    block.copy_from_slice(s.map(u32::to_be_bytes).as_flattened());
+    block
 }
 
 /// AddRoundKey, with round key `n`.
@@ -46,12 +45,7 @@ pub(crate) fn add_round_key(s: [u32; 4], keys: &[u32; 44], n: usize) -> [u32; 4]
     requires { n < 11 }
     ensures { columns result ≡ add_round_key (columns s) keys.now n }
 {
-    [
-        s[0] ^ keys[4 * n],
-        s[1] ^ keys[4 * n + 1],
-        s[2] ^ keys[4 * n + 2],
-        s[3] ^ keys[4 * n + 3],
-    ]
+    array::from_fn(|c| s[c] ^ keys[4 * n + c])
 }
 
 /// SubBytes and ShiftRows.
@@ -80,6 +74,10 @@ pub(crate) fn sub_shift_mix(s: [u32; 4]) -> [u32; 4]
     ]
 }
 
+// Two steps for a column, and a function of the state for each: only the last round leaves out the mixing, and a step as
+// a parameter would be no plainer.
+
+// By shifts, since each word gives one byte alone.
 /// The column to which `a`, `b`, `c` and `d` each give the byte of their row.
 fn sub_column(a: u32, b: u32, c: u32, d: u32) -> u32
     ensures { bytes_of result ≡ sbox (byte 0 a) ∷ sbox (byte 1 b) ∷ sbox (byte 2 c) ∷ sbox (byte 3 d) ∷ [] }

@@ -14,12 +14,10 @@ pub(crate) fn expand(key: &[u8; 16]) -> [u32; 44]
 {
     let first = load(key);
     let mut w = [0; 44];
-    w[0] = first[0];
-    w[1] = first[1];
-    w[2] = first[2];
-    w[3] = first[3];
-    for n in 0..40usize {
-        w[4 + n] = next(&w, 4 + n);
+    w[..4].copy_from_slice(&first);
+    // By index: each word follows from earlier words of the same array.
+    for i in 4..44usize {
+        w[i] = next(&w, i);
     }
     w
 }

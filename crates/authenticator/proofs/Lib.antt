@@ -1,4 +1,3 @@
-pub mod Answered
 pub mod Equal
 pub mod Feeds
 pub mod Padding

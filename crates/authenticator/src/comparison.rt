@@ -11,9 +11,6 @@ pub fn same(a: &[u8], b: &[u8]) -> bool
     if a.len() != b.len() {
         return false;
     }
-    let mut differ = 0;
-    for i in 0..a.len() {
-        differ |= a[i] ^ b[i];
-    }
+    let differ = a.iter().zip(b).fold(0, |differ, (x, y)| differ | (*x ^ *y));
     differ == 0
 }

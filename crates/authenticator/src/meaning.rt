@@ -1,6 +1,6 @@
 //! The authenticator: what every implementation owes, and all that generic code knows of one.
 
-ghost use Rattle.std.specs.Prelude.{◌≡◌, ◌≤◌, length, MatchResult, ◌≢◌};
+ghost use Rattle.std.specs.Prelude.{◌≡◌, ℕ, ◌≤◌, length, MatchResult, ◌≢◌};
 ghost use Rattle.refusal.specs.declared.Refusal.TheVariants.{WrongLength};
 ghost use Rattle.authenticator.specs.Meaning.{Meaning, padded};
 
@@ -14,16 +14,13 @@ pub trait Authenticator {
     /// The length of this authenticator's tags, 1 to 32.
     const TAG: usize;
 
+    ghost TAG: { ℕ };
+
     ghost means: { Meaning };
 
     ghost key: { Self → means.Key };
 
     ghost state: { Self → means.State };
-
-    /// `TAG`, with its bounds promised: a contract cannot cite the constant itself.
-    fn tag_len() -> usize
-        ensures value { result ≡ means.size }
-        ensures bounds { (1 ≤ result) × (result ≤ 32) };
 
     /// Goes to the beginning, whatever was fed before.
     fn open(&mut self)
@@ -42,4 +39,14 @@ pub trait Authenticator {
         ensures answer { MatchResult result (λ _. length out.old ≡ 32) (λ e. (e ≡ WrongLength) × (length out.old ≢ 32)) }
         ensures closed { MatchResult result (λ _. state self.new ≡ means.begin (key self.old)) (λ _. self.new ≡ self.old) }
         ensures out { MatchResult result (λ _. out.new ≡ padded (means.closes (key self.old) (state self.old))) (λ _. out.new ≡ out.old) };
+
+    ghost tag: { TAG ≡ means.size };
+
+    /// `TAG`, with its bounds promised.
+    final fn tag_len() -> usize
+        ensures value { result ≡ means.size }
+        ensures bounds { (1 ≤ result) × (result ≤ 32) }
+    {
+        Self::TAG
+    }
 }

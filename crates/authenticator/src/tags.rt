@@ -7,6 +7,7 @@ ghost use Rattle.authenticator.specs.Meaning.{tag, padded};
 use crate::meaning::{Authenticator, TAG_BUFFER};
 use refusal::Refusal;
 
+// The kind is any byte, since which kinds there are is the caller's to say: an enum would take fewer.
 /// Writes the tag of `kind` followed by `message`, then zeros, into `out`. The leading byte keeps messages of
 /// different kinds apart. Refused where `out` has not 32 bytes; then nothing has changed.
 pub fn tag_into<K: Authenticator>(

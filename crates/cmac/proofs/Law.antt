@@ -1,7 +1,7 @@
 -- The tag of the fed block algorithm is CMAC, for every key and every message.
 use Rattle.std.proofs.Common.{◌≡◌, ℕ, zero, suc, ◌+◌, ◌-◌, ◌*◌, ◌/◌, max, List, [], length, take, drop, sym, refl, ap, ◌∙◌, arith, lit<, lit≤}
-use Rattle.authenticator.specs.Meaning.{tag, padded}
-use Rattle.authenticator.specs.Feeding.{Held, stepped, fed}
+use Rattle.authenticator.specs.Meaning.{tag}
+use Rattle.authenticator.specs.Feeding.{stepped, fed}
 use Rattle.authenticator.proofs.Views.{ahead, bytes_seen}
 use Rattle.aes.specs.Cipher.{cipher}
 use Rattle.cmac.specs.Blocks.{zeros, xored}
@@ -26,16 +26,9 @@ cmac_law key message =
     ∙ ap (λ x. closed key x (drop (16 * n) message)) (stepped_blocks n key zeros message)
     ∙ ap (λ m. closed key (chained m key zeros message) (drop (16 * m) message)) (before_last (length message))
 
--- what closing writes, after a new authenticator was fed the message
-pub told : (k k₂ : List ℕ) (s s₂ : Held (List ℕ)) (key message out : List ℕ)
-    → k₂ ≡ k → s ≡ (fed 16 cmac_chaining).begin k → s₂ ≡ (fed 16 cmac_chaining).feeds k s message
-    → tag (fed 16 cmac_chaining) k message ≡ cmac key message
-    → out ≡ padded ((fed 16 cmac_chaining).closes k₂ s₂) → out ≡ padded (cmac key message)
-told k k₂ s s₂ key message out ek es es₂ law e =
-    let M = fed 16 cmac_chaining in
-    e ∙ ap (λ q. padded (M.closes q s₂)) ek
-    ∙ ap (λ q. padded (M.closes k q)) (es₂ ∙ ap (λ q. M.feeds k q message) es)
-    ∙ ap padded law
+-- the same of an authenticator that holds the key
+pub keyed_law : (k key message : List ℕ) → k ≡ key → tag (fed 16 cmac_chaining) k message ≡ cmac key message
+keyed_law k key message e = ap (λ q. tag (fed 16 cmac_chaining) q message) e ∙ cmac_law key message
 
 pub length-cmac : (key message : List ℕ) → length (cmac key message) ≡ 16
 length-cmac key message =

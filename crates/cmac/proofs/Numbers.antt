@@ -1,9 +1,7 @@
 -- Blocks and the numbers that they stand for.
-use Rattle.std.proofs.Common.{◌≡◌, ℕ, suc, ◌+◌, ◌-◌, ◌*◌, ◌/◌, ◌%◌, ◌^◌, ◌<◌, List, [], ◌∷◌, ◌++◌, length, get_or, drop, set, replicate, refl, ap, ◌∙◌, div-one, arith}
-use lib.Seq.{set_at}
-use Rattle.std.proofs.lemmas.List.{drop-replicate}
+use Rattle.std.proofs.Common.{◌≡◌, ℕ, ◌+◌, ◌*◌, ◌/◌, ◌%◌, ◌^◌, List, [], ◌∷◌, get_or, refl, ap, ◌∙◌, div-one, arith}
 use Rattle.cmac.specs.Blocks.{number, bytes_of}
-use Rattle.cmac.specs.Cmac.{twice, doubled, padding}
+use Rattle.cmac.specs.Cmac.{twice, doubled}
 
 -- a block read as a number, and a number written as a block, byte after byte
 abbrev pub read : List ℕ → ℕ
@@ -32,10 +30,3 @@ written_bytes n = rw (div-one n) refl
 pub doubled_number : (n m : ℕ) (block r : List ℕ) → n ≡ read block → m ≡ twice n → r ≡ written m → r ≡ doubled block
 unfolding doubled
 doubled_number n m block r e f g = g ∙ written_bytes m ∙ ap bytes_of (f ∙ ap twice (e ∙ read_number block))
-
--- the end of a message written into a block of zeros, and the byte 0x80 behind it
-pub padding_written : (rest xs : List ℕ) → xs ≡ rest → length rest < 16
-    → set (xs ++ drop (length rest) (replicate 16 0)) (length rest) 0x80 ≡ padding rest
-padding_written rest xs e l =
-    let n : 16 - length rest ≡ suc (15 - length rest) = omega arith in
-    rw (e, drop-replicate {X = ℕ} (length rest) 16 0, n) (set_at rest 0 (replicate (15 - length rest) 0) 0x80 (length rest) refl)

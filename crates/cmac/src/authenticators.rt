@@ -8,7 +8,7 @@ ghost use Rattle.cmac.specs.Cmac.{cmac};
 ghost use Rattle.cmac.specs.Chains.{cmac_chaining};
 ghost use Rattle.cmac.specs.Keyed.{key_in, held_in};
 
-use crate::algorithm::{CmacCore, TAG, keyed};
+use crate::algorithm::CmacCore;
 use authenticator::{Authenticator, Feeder, TAG_BUFFER};
 use refusal::Refusal;
 
@@ -16,54 +16,19 @@ use refusal::Refusal;
 const KEY: usize = 16;
 
 /// AES-CMAC under one key.
-#[derive(Drop)]
-pub struct Cmac {
-    feeder: Feeder<CmacCore, 16>,
-}
+pub type Cmac = Feeder<CmacCore, 16>;
 
-impl Cmac {
-    /// An authenticator under `key`, at its beginning. Refused where `key` has not 16 bytes.
-    pub fn new(key: &[u8]) -> Result<Cmac, Refusal>
-        ensures answer { MatchResult result (λ _. length key.now ≡ 16) (λ e. (e ≡ WrongLength) × (length key.now ≢ 16)) }
-        ensures made { IfOk result (λ c. (key_in c ≡ key.now) × (held_in c ≡ (fed 16 cmac_chaining).begin (key_in c))) }
-        ensures law { IfOk result (λ c. (message : List ℕ) → tag (fed 16 cmac_chaining) (key_in c) message ≡ cmac key.now message) }
-    {
-        if key.len() != KEY {
-            return Err(Refusal::WrongLength);
-        }
-        match key.first_chunk::<16>() {
-            Some(bytes) => Ok(Cmac {
-                feeder: Feeder::new(keyed(bytes)),
-            }),
-            None => unreachable(),
-        }
-    }
-}
-
-impl Authenticator for Cmac {
-    const TAG: usize = TAG;
-
-    ghost means = { fed 16 cmac_chaining };
-
-    ghost key = { key_in };
-
-    ghost state = { held_in };
-
-    fn tag_len() -> usize {
-        Self::TAG
-    }
-
-    fn open(&mut self) {
-        self.feeder.open();
-    }
-
-    fn feed(&mut self, part: &[u8]) {
-        self.feeder.feed(part);
-    }
-
-    fn close(&mut self, out: &mut [u8]) -> Result<(), Refusal> {
-        self.feeder.close(out)
-    }
+/// An authenticator under `key`, at its beginning. Refused where `key` has not 16 bytes.
+#[tactic(auto, using(crate::proofs::Law::keyed_law))]
+pub fn keyed(key: &[u8]) -> Result<Cmac, Refusal>
+    ensures answer { MatchResult result (λ _. length key.now ≡ 16) (λ e. (e ≡ WrongLength) × (length key.now ≢ 16)) }
+    ensures made { IfOk result (λ c. (key_in c ≡ key.now) × (held_in c ≡ (fed 16 cmac_chaining).begin (key_in c))) }
+    ensures law { IfOk result (λ c. (message : List ℕ) → tag (fed 16 cmac_chaining) (key_in c) message ≡ cmac key.now message) }
+{
+    let Some(key) = key.as_array::<KEY>() else {
+        return Err(Refusal::WrongLength);
+    };
+    Ok(Feeder::new(CmacCore::new(key)))
 }
 
 /// Writes the tag of `message` under `key`, then zeros, into `out`. Refused where `out` has not 32 bytes, and then
@@ -75,7 +40,7 @@ pub fn cmac_into(key: &[u8], message: &[u8], out: &mut [u8]) -> Result<(), Refus
     if out.len() != TAG_BUFFER {
         return Err(Refusal::WrongLength);
     }
-    let mut authenticator = Cmac::new(key)?;
+    let mut authenticator = keyed(key)?;
     authenticator.feed(message);
     authenticator.close(out)
 }

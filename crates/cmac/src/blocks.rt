@@ -5,17 +5,16 @@ ghost use Rattle.authenticator.specs.Meaning.{padded};
 ghost use Rattle.cmac.specs.Blocks.{xored};
 ghost use Rattle.cmac.specs.Cmac.{padding, twice, doubled};
 
+use std::array;
+
 /// The sum of two blocks.
 pub(crate) fn xor(a: &[u8; 16], b: &[u8; 16]) -> [u8; 16]
     ensures { result ≡ xored a.now b.now }
 {
-    let mut sum = [0; 16];
-    for i in 0..16usize {
-        sum[i] = a[i] ^ b[i];
-    }
-    sum
+    array::from_fn(|i| a[i] ^ b[i])
 }
 
+// SHA-256 pads its blocks in the same way. No crate stands below both, and one for five lines would be no plainer.
 /// Less than a block, padded.
 pub(crate) fn pad(rest: &[u8]) -> [u8; 16]
     requires { length rest.now < 16 }

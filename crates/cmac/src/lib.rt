@@ -7,5 +7,6 @@ mod authenticators;
 mod blocks;
 mod keys;
 
-pub use authenticators::{Cmac, cmac_into};
+pub use algorithm::CmacCore;
+pub use authenticators::{Cmac, cmac_into, keyed};
 pub use keys::subkeys;

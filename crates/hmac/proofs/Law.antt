@@ -1,5 +1,5 @@
 -- The tag of the fed block algorithm is HMAC, for every message.
-use Rattle.std.proofs.Common.{◌≡◌, ℕ, zero, suc, ◌+◌, ◌-◌, ◌*◌, ◌%◌, ◌^◌, ◌≤◌, List, [], ◌++◌, length, take, drop, sym, ap, ◌∙◌, arith, lit<, lit≤, length-append, length-drop}
+use Rattle.std.proofs.Common.{Ok, Err, Result, MatchResult, IfOk, ◌≡◌, ℕ, zero, suc, ◌+◌, ◌-◌, ◌*◌, ◌%◌, ◌^◌, ◌≤◌, List, [], ◌++◌, length, take, drop, sym, ap, ◌∙◌, arith, lit<, lit≤, length-append, length-drop}
 use native.Mathlib.Nat.{mod-add-mod, mul-div-le}
 use Rattle.authenticator.specs.Meaning.{tag, padded}
 use Rattle.authenticator.specs.Feeding.{Held, stepped, fed}
@@ -66,6 +66,13 @@ hmac_law key message e =
     ∙ ap (λ v. hmac_chaining.finish k v rest) (stepped_blocks k n k.inner 512 message)
     ∙ ap (λ i. finished k.outer i 768) (inner k message ∙ sym (hashed (inner_pad key) message (length-pad 0x36 key e)))
     ∙ sym outer
+
+-- the same of each authenticator that is made, which holds the key's chaining values
+pub keyed_law : {A E : Type 0} (r : Result A E) (held : A → Chains) (Q : E → Type 0) (R : A → Type 0) (key : List ℕ)
+    → MatchResult r (λ _. length key ≡ 32) Q → IfOk r (λ h. (held h ≡ chains_of key) × R h)
+    → IfOk r (λ h. (message : List ℕ) → tag (fed 64 hmac_chaining) (held h) message ≡ hmac key message)
+keyed_law (Ok h) held Q R key long made = λ message. ap (λ k. tag (fed 64 hmac_chaining) k message) made.0 ∙ hmac_law key message long
+keyed_law (Err e) held Q R key long made = made
 
 -- what closing writes, after a new authenticator was fed the message
 pub told : (k k₂ : Chains) (s s₂ : Held Progress) (key message out : List ℕ)

@@ -1,33 +1,25 @@
--- A key pad, formed byte by byte over a block that holds the mark everywhere.
-use Rattle.std.proofs.Common.{◌≡◌, ℕ, suc, ◌+◌, ◌-◌, ◌<◌, List, [], ◌∷◌, ◌++◌, map, length, get_or, take, set, replicate, sym, ap, ◌∙◌, arith, length-append}
+-- A key pad, formed byte by byte over the key and the zeros behind it.
+use Rattle.std.proofs.Common.{◌≡◌, ℕ, ◌-◌, ◌≤◌, List, ◌++◌, map, length, take, drop, replicate, refl, ◌∙◌, arith, length-append}
 use lib.Bits.{bit_xor}
 use lib.ListN.{length-replicate}
-use Rattle.std.proofs.lemmas.List.{length-map, map-set, set_at, take_more, take_all, append_assoc, length-take-le}
+use Rattle.std.proofs.lemmas.List.{length-map, take_all, drop_all, append-nil}
 use Rattle.hmac.specs.Hmac.{pad}
 
--- one byte of the key more
-pub pad_more : (mark : ℕ) (pads key : List ℕ) (i : ℕ) → length key ≡ 32 → i < 32
-    → pads ≡ map (λ b. bit_xor b mark) (take i key ++ replicate (64 - i) 0)
-    → set pads i (bit_xor (get_or key i 0) mark) ≡ map (λ b. bit_xor b mark) (take (i + 1) key ++ replicate (64 - (i + 1)) 0)
-pad_more mark pads key i e lt inv =
-    let f : ℕ → ℕ = λ b. bit_xor b mark in
-    let k = get_or key i 0 in
-    let rest : List ℕ = replicate (64 - (i + 1)) 0 in
-    let one : 64 - i ≡ suc (64 - (i + 1)) = omega arith in
-    let zeros : take i key ++ replicate (64 - i) 0 ≡ take i key ++ (0 ∷ rest) = ap (λ n. take i key ++ replicate n 0) one in
-    let put : set (take i key ++ (0 ∷ rest)) i k ≡ take i key ++ (k ∷ rest) = set_at (take i key) 0 rest k i (length-take-le i key (omega arith)) in
-    let join : (take i key ++ (k ∷ [])) ++ rest ≡ take i key ++ (k ∷ rest) = append_assoc (take i key) (k ∷ []) rest in
-    ap (λ l. set l i (f k)) inv
-    ∙ sym (map-set f (take i key ++ replicate (64 - i) 0) i k)
-    ∙ ap (map f) (ap (λ l. set l i k) zeros ∙ put ∙ sym join ∙ ap (λ l. l ++ rest) (sym (take_more key i 0 (omega arith))))
+-- the bytes of which the mark makes a pad
+abbrev pub filled : List ℕ → List ℕ
+filled key = key ++ replicate 32 0
 
--- all of the key
-pub pad_whole : (mark : ℕ) (pads key : List ℕ) (i : ℕ) → length key ≡ 32 → i ≡ 32
-    → pads ≡ map (λ b. bit_xor b mark) (take i key ++ replicate (64 - i) 0) → pads ≡ pad mark key
+pub length-filled : (key : List ℕ) → length key ≡ 32 → length (filled key) ≡ 64
+length-filled key e = omega (arith, length-append key (replicate 32 0))
+
+-- all of them are written
+pub pad_whole : (mark i : ℕ) (pads key : List ℕ) → length key ≡ 32 → 64 ≤ i
+    → pads ≡ map (λ b. bit_xor b mark) (take i (filled key)) ++ drop i (filled key) → pads ≡ pad mark key
 unfolding pad
-pad_whole mark pads key i e ei inv =
-    inv ∙ ap (λ l. map (λ b. bit_xor b mark) (l ++ replicate (64 - i) 0)) (take_all i key (omega arith))
-    ∙ ap (λ n. map (λ b. bit_xor b mark) (key ++ replicate (64 - n) 0)) (ei ∙ sym e)
+pad_whole mark i pads key e le inv =
+    let n : length (filled key) ≡ 64 = length-filled key e in
+    let zeros : 64 - length key ≡ 32 = omega arith in
+    inv ∙ rw (take_all i (filled key) (omega arith), drop_all i (filled key) (omega arith), append-nil, zeros) refl
 
 pub length-pad : (mark : ℕ) (key : List ℕ) → length key ≡ 32 → length (pad mark key) ≡ 64
 unfolding pad

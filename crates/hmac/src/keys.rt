@@ -16,36 +16,34 @@ pub const PADS: usize = 64;
 /// Holds the lent bytes in which key pads are formed, and zeroes them at its end, so that no way out leaves a trace
 /// of the key there.
 pub struct Wiped<'a> {
-    pub pads: &'a mut [u8],
+    pub pads: &'a mut [u8; PADS],
 }
 
 impl Drop for Wiped<'_> {
     fn drop(self)
-        ensures { self.exit.0.now ≡ replicate (length self.entry.pads.now) 0 }
+        ensures { self.exit.0.now ≡ replicate 64 0 }
     {
         self.pads.fill(0);
         let Wiped { pads: _ } = self;
     }
 }
 
+// The mark is the byte that the standard sums with the key, and names no kind.
 /// The chaining value after a key pad, which is formed in `pads`.
-pub(crate) fn chain(pads: &mut [u8], key: &[u8], mark: u8) -> [u32; 8]
-    requires { (length pads.old ≡ 64) × (length key.now ≡ 32) }
+pub(crate) fn chain(pads: &mut [u8; PADS], key: &[u8; KEY], mark: u8) -> [u32; 8]
     ensures { result ≡ compressed initial (pad mark key.now) }
 {
     form(pads, key, mark);
-    match pads.first_chunk::<64>() {
-        Some(block) => first(block),
-        None => unreachable(),
-    }
+    first(pads)
 }
 
-fn form(pads: &mut [u8], key: &[u8], mark: u8)
-    requires { (length pads.old ≡ 64) × (length key.now ≡ 32) }
+// In place, so that no copy of the key is left elsewhere.
+fn form(pads: &mut [u8; PADS], key: &[u8; KEY], mark: u8)
     ensures { pads.new ≡ pad mark key.now }
 {
-    pads.fill(mark);
-    for i in 0..KEY {
-        pads[i] = key[i] ^ mark;
+    pads.fill(0);
+    pads[..KEY].copy_from_slice(key);
+    for byte in pads.iter_mut() {
+        *byte ^= mark;
     }
 }

@@ -6,4 +6,5 @@ mod algorithm;
 mod authenticators;
 mod keys;
 
-pub use authenticators::{Hmac, hmac_into};
+pub use algorithm::HmacCore;
+pub use authenticators::{Hmac, hmac_into, keyed};

@@ -1,10 +1,10 @@
 -- The last blocks of a message, and its digest.
-use Rattle.std.proofs.Common.{◌≡◌, ℕ, suc, ◌+◌, ◌-◌, ◌*◌, ◌%◌, ◌<◌, ◌≤◌, List, [], ◌∷◌, ◌++◌, length, get_or, take, drop, set, replicate, sym, refl, ap, ◌∙◌, append_assoc, append-nil, arith, length-append, take_all, drop-drop}
+use Rattle.std.proofs.Common.{◌≡◌, ℕ, suc, ◌+◌, ◌-◌, ◌%◌, ◌<◌, ◌≤◌, List, map, [], ◌∷◌, ◌++◌, length, take, drop, set, replicate, sym, refl, ap, ◌∙◌, append_assoc, append-nil, arith, length-append, take_all, drop-drop}
 use borrow.Rule.Slice.PartMut.{put_mid}
+use Rattle.std.specs.List.{flat_map}
 use lib.ListN.{length-replicate, replicate-append-replicate}
 use lib.Seq.{set_at, take-append-add}
-use Rattle.std.proofs.lemmas.List.{drop_all, take_more, take-replicate, drop-replicate}
-use Rattle.std.proofs.lemmas.Slice.{take-put_mid}
+use Rattle.std.proofs.lemmas.List.{drop_all, take-replicate, drop-replicate}
 use Rattle.sha256.specs.Compression.{compressed}
 use Rattle.sha256.specs.Hash.{bytes4, bytes8, digest, padding, chained, finished}
 use Rattle.sha256.proofs.Blocks.{chained_block, length-padding}
@@ -79,15 +79,8 @@ closed_two h rest block last bits g l b e =
     omega (arith, ap length b, length-append rest (0x80 ∷ replicate (63 - length rest) 0), length-replicate {A = ℕ} (63 - length rest) 0) in
     sym (finished_two h rest block last bits p n (ap length e))
 
--- the bytes of one more word
-digest_push : (ws : List ℕ) (w : ℕ) → digest (ws ++ w ∷ []) ≡ digest ws ++ bytes4 w
+-- the words as bytes, one after another
+pub digest_joined : (ws : List ℕ) → flat_map (λ b. b) (map bytes4 ws) ≡ digest ws
 unfolding digest
-digest_push [] w = refl
-digest_push (x ∷ ws) w = ap (λ (ys : List ℕ). bytes4 x ++ ys) (digest_push ws w)
-
--- one more word written behind the others
-pub digest_more : (i k : ℕ) (state out xs : List ℕ) → i < length state → 4 * i ≤ length out → xs ≡ bytes4 (get_or state i 0)
-    → take (4 * i) out ≡ digest (take i state) → take (4 * (i + 1)) (put_mid (4 * i) k out xs) ≡ digest (take (i + 1) state)
-digest_more i k state out xs l m e inv =
-    take-put_mid (4 * i) k out xs (4 * (i + 1)) (omega (arith, ap length e)) m
-    ∙ rw (inv, e, take_more state i 0 l, digest_push) refl
+digest_joined [] = refl
+digest_joined (w ∷ ws) = ap (λ (ys : List ℕ). bytes4 w ++ ys) (digest_joined ws)

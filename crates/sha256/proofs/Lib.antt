@@ -1,4 +1,5 @@
 pub mod Bitwise
 pub mod Blocks
 pub mod Ends
+pub mod Made
 pub mod Turns

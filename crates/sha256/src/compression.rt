@@ -7,6 +7,7 @@ ghost use Rattle.sha256.specs.Hash.{initial};
 use crate::constants::{INITIAL, constant};
 use crate::functions::{big_sigma0, big_sigma1, choose, majority};
 use crate::schedule::schedule;
+use std::array;
 
 /// The chaining value after `state` and one block more.
 pub fn compress(state: [u32; 8], block: &[u8; 64]) -> [u32; 8]
@@ -14,6 +15,7 @@ pub fn compress(state: [u32; 8], block: &[u8; 64]) -> [u32; 8]
 {
     let words = schedule(block);
     let mut s = state;
+    // By index: a round takes its constant and its word by its number.
     for i in 0..8usize {
         let next = eight_rounds(s, &words, 8 * i);
         s = next;
@@ -61,14 +63,5 @@ fn round(s: [u32; 8], k: u32, w: u32) -> [u32; 8]
 fn add(s: [u32; 8], t: [u32; 8]) -> [u32; 8]
     ensures { result ≡ added s t }
 {
-    [
-        s[0].wrapping_add(t[0]),
-        s[1].wrapping_add(t[1]),
-        s[2].wrapping_add(t[2]),
-        s[3].wrapping_add(t[3]),
-        s[4].wrapping_add(t[4]),
-        s[5].wrapping_add(t[5]),
-        s[6].wrapping_add(t[6]),
-        s[7].wrapping_add(t[7]),
-    ]
+    array::from_fn(|i| s[i].wrapping_add(t[i]))
 }

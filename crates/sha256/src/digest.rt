@@ -7,9 +7,7 @@ ghost use Rattle.sha256.specs.Hash.{digest as digested};
 pub(crate) fn digest(state: [u32; 8]) -> [u8; 32]
     ensures { result ≡ digested state }
 {
-    let mut out = [0u8; 32];
-    for i in 0..8usize {
-        out[4 * i..4 * i + 4].copy_from_slice(&state[i].to_be_bytes());
-    }
+    let mut out = [0; 32];
+    out.copy_from_slice(state.map(u32::to_be_bytes).as_flattened());
     out
 }

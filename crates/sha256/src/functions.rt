@@ -17,6 +17,8 @@ pub(crate) fn majority(x: u32, y: u32, z: u32) -> u32
     ((x ^ y) & (y ^ z)) ^ y
 }
 
+// The standard names four such functions. One with the three counts as parameters would leave four of one call each.
+
 pub(crate) fn big_sigma0(x: u32) -> u32
     ensures { result ≡ big_sigma0 x }
 {

@@ -4,15 +4,16 @@ ghost use Rattle.std.specs.Prelude.{◌≡◌, ℕ, ◌+◌, ◌<◌, ◌≤◌,
 ghost use Rattle.sha256.specs.Compression.{loaded, extended, schedule as scheduled};
 
 use crate::functions::{small_sigma0, small_sigma1};
+use std::array;
 
 /// The schedule of a block.
 pub(crate) fn schedule(block: &[u8; 64]) -> [u32; 64]
     ensures { result ≡ scheduled 64 block.now }
 {
-    let mut words = [0u32; 64];
-    for t in 0..16usize {
-        words[t] = loaded_word(block, t);
-    }
+    let loaded: [u32; 16] = array::from_fn(|t| loaded_word(block, t));
+    let mut words = [0; 64];
+    words[..16].copy_from_slice(&loaded);
+    // By index: each word follows from earlier words of the same array.
     for i in 2..8usize {
         extend_by_eight(&mut words, 8 * i);
     }
@@ -24,6 +25,7 @@ fn loaded_word(block: &[u8; 64], t: usize) -> u32
     requires { t < 16 }
     ensures { result ≡ loaded block.now t }
 {
+    // By index: the schedule's definition takes a word by its place.
     u32::from_be_bytes([
         block[4 * t],
         block[4 * t + 1],

@@ -1,10 +1,9 @@
-use Rattle.std.proofs.Common.{get_or, arith}
+use Rattle.std.proofs.Common.{get_or, rules}
 use lib.Bits.{bit_xor}
-use Rattle.std.proofs.lemmas.List.FromFn.{fill_by_all}
 use Rattle.cmac.specs.Blocks.{xored}
+use Rattle.aes.proofs.Made.{made_by}
 use Rattle.cmac.proofs.blocks.xor.Goals as goal
 
 pub returns : goal.returns
 unfolding xored
-returns c =
-    fill_by_all (λ i. bit_xor (get_or c.args.a.now i 0) (get_or c.args.b.now i 0)) _ 16 0 c.loop-i.invariant.0 (λ k h. c.loop-i.invariant.1 k (omega arith))
+returns c = made_by _ (λ i. bit_xor (get_or c.args.a.now i 0) (get_or c.args.b.now i 0)) _ (λ i y q k. search rules) _ 16 c.from_fn.ensures.items

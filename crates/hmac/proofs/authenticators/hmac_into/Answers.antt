@@ -3,17 +3,11 @@ use Rattle.hmac.specs.Keyed.{chains_in, held_in}
 use Rattle.hmac.proofs.Law.{told}
 use Rattle.hmac.proofs.authenticators.hmac_into.Goals as goal
 
-pub returns : goal.returns
-returns c =
+pub returns-clause-out : goal.returns-clause-out
+returns-clause-out c =
     let made = c.in_ok-authenticator.ensures in
     let a = c.in_ok-authenticator.authenticator in
     let fed = c.feed.new.self in
-    record {
-      answer = MatchResult-weaker c.close.result c.close.ensures.answer (λ _ e. (made.answer, e)) (λ _ e. (e.0, λ all. e.1 all.1));
-      wiped = made.wiped;
-      kept = made.kept;
-      out =
-          MatchResult-weaker c.close.result c.close.ensures.out
-          (λ _ e. told (chains_in a) (chains_in fed) (held_in a) (held_in fed) c.args.key.now c.args.message.now _ c.feed.ensures.key made.made.1 c.feed.ensures.state (made.law c.args.message.now) e)
-          (λ _ e. e);
-    }
+    MatchResult-weaker c.close.result c.close.ensures.out
+    (λ _ e. told (chains_in a) (chains_in fed) (held_in a) (held_in fed) c.args.key.now c.args.message.now _ c.feed.ensures.key made.made.1 c.feed.ensures.state (made.law c.args.message.now) e)
+    (λ _ e. e)

@@ -1,6 +1,7 @@
-use Rattle.std.proofs.Common.{◌≡◌, ◌-◌, ◌++◌, map, take, replicate}
+use Rattle.std.proofs.Common.{◌≡◌, ◌++◌, map, take, drop}
 use lib.Bits.{bit_xor}
+use Rattle.hmac.proofs.Pads.{filled}
 use Rattle.hmac.proofs.keys.form.Given as goal
 
-abbrev pub invariant-loop-i : goal.invariant-loop-i
-invariant-loop-i l = l.pads ≡ map (λ b. bit_xor b l.mark) (take l.i l.key ++ replicate (64 - l.i) 0)
+abbrev pub invariant-loop-byte : goal.invariant-loop-byte
+invariant-loop-byte l = l.pads ≡ map (λ b. bit_xor b l.mark) (take l.byte-index (filled l.key)) ++ drop l.byte-index (filled l.key)

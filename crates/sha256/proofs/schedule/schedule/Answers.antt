@@ -1,15 +1,11 @@
-use Rattle.std.proofs.Common.{refl, rules}
-use Rattle.std.proofs.lemmas.List.{take_all}
-use Rattle.sha256.specs.Compression.{schedule}
-use Rattle.sha256.proofs.Turns.{scheduled_loaded}
+use Rattle.std.proofs.Common.{◌∙◌, rules}
+use Rattle.std.proofs.lemmas.List.{take_at}
+use Rattle.sha256.specs.Compression.{loaded, schedule}
+use Rattle.sha256.proofs.Made.{made_by}
 use Rattle.sha256.proofs.schedule.schedule.Goals as goal
 
-pub loop-t-init : goal.loop-t-init
+pub loop-i-init : goal.loop-i-init
 unfolding schedule
-loop-t-init c = (refl, refl)
-
-pub loop-t-preserved : goal.loop-t-preserved
-loop-t-preserved c = scheduled_loaded _ _ _ _ (search rules) c.loaded_word.ensures c.loop-t.invariant
-
-pub returns : goal.returns
-returns c = search (rules, take_all)
+loop-i-init c =
+    let made = made_by _ (loaded c.args.block.now) _ (λ i y q k. search rules) _ 16 c.from_fn-loaded.ensures.items in
+    (search rules, take_at _ _ 16 c.copy_from_slice.ensures.len ∙ c.copy_from_slice.ensures.after ∙ made)

@@ -2,8 +2,5 @@ use Rattle.std.proofs.Common.{◌*◌}
 use Rattle.sha256.proofs.Turns.{Scheduled}
 use Rattle.sha256.proofs.schedule.schedule.Given as goal
 
-abbrev pub invariant-loop-t : goal.invariant-loop-t
-invariant-loop-t l = Scheduled l.t l.words l.block
-
 abbrev pub invariant-loop-i : goal.invariant-loop-i
 invariant-loop-i l = Scheduled (8 * l.i) l.words l.block
