@@ -1,14 +1,12 @@
 -- The chip store: NOR flash, operation by operation, and its plan.
-use Rattle.std.specs.Prelude.{◌≡◌, ℕ, zero, suc, ◌-◌, ◌<◌, ◌≤◌, Bool, true, false, cond, List, [], ◌∷◌, ◌==◌, bit_and}
-use Rattle.chip.specs.declared.stores.ChipStore.{ChipStore}
-use Rattle.store.specs.Bank.{Bank, bank, Cutting}
+use Rattle.std.specs.Prelude.{◌≡◌, ℕ, zero, suc, ◌-◌, ◌<◌, ◌≤◌, Bool, true, false, not, List, [], ◌∷◌, ◌==◌, bit_and}
+use Rattle.std.specs.List.{list_any, zip}
+use Rattle.store.specs.Bank.{Cutting}
 use Rattle.store.specs.Memory.{filled}
 
 -- Some bit of `new` is 1 where that of `old` is 0.
-unfoldable pub rises : List ℕ → List ℕ → Bool
-rises [] new = false
-rises (o ∷ old) [] = false
-rises (o ∷ old) (n ∷ new) = cond (bit_and o n == n) (rises old new) true
+abbrev pub rises : List ℕ → List ℕ → Bool
+rises old new = list_any (λ p. not (bit_and p.0 p.1 == p.1)) (zip old new)
 
 -- The first k bytes of a block programmed: a bit stays 1 only where it was 1 and the new one is.
 unfoldable pub programmed : ℕ → List ℕ → List ℕ → List ℕ
@@ -35,7 +33,3 @@ chip_cutting = record {
   Passes = λ plan old new rest. (operations (rises old new) ≤ plan) × (rest ≡ plan - operations (rises old new));
   Cuts = λ plan old new torn. (plan < operations (rises old new)) × (torn ≡ worked (rises old new) plan old new);
 }
-
--- What a chip store holds.
-abbrev pub chip_bank : ChipStore → Bank ℕ
-chip_bank s = bank s.memory.now s.live s.plan

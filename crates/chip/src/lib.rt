@@ -3,6 +3,9 @@
 #![tactic(auto)]
 
 mod nor;
-mod stores;
 
-pub use stores::ChipStore;
+pub use nor::Nor;
+use store::MemoryStore;
+
+/// A store in NOR flash.
+pub type ChipStore<'a> = MemoryStore<'a, Nor>;

@@ -1,60 +1,73 @@
-//! NOR flash: what is done to one block, operation by operation.
+//! NOR flash: a write goes operation by operation, and a plan counts operations.
 
-ghost use Rattle.std.specs.Prelude.{◌≡◌, ◌≤◌, length};
-ghost use Rattle.chip.specs.Chip.{rises, programmed, operations as operations_of, worked};
-ghost use Rattle.store.specs.Memory.{filled};
+ghost use Rattle.std.specs.Prelude.{◌≡◌, ◌≤◌};
+ghost use Rattle.chip.specs.Chip.{rises, programmed, operations as operations_of, worked, chip_cutting};
 
-use store::BLOCK_LEN;
+use store::{BLOCK_LEN, Make};
 
 /// A byte as an erasure leaves it.
 const ERASED: u8 = 0xff;
 
+/// Memory that turns bits only from 1 to 0, but for an erasure, which sets a whole block to ones.
+pub struct Nor;
+
+// The block, its new bytes and the plan: what one write is about, and three things of three owners.
+impl Make for Nor {
+    /// How many operations are done before the cut. An erasure is one, and so is each programmed byte.
+    type Plan = usize;
+
+    ghost cutting = { chip_cutting };
+
+    fn write(block: &mut [u8; BLOCK_LEN], bytes: &[u8; BLOCK_LEN]) {
+        let erases = must_erase(block, bytes);
+        work(block, bytes, erases, operations(erases));
+    }
+
+    fn write_by(
+        plan: usize,
+        block: &mut [u8; BLOCK_LEN],
+        bytes: &[u8; BLOCK_LEN],
+    ) -> Option<usize> {
+        let erases = must_erase(block, bytes);
+        let needed = operations(erases);
+        work(block, bytes, erases, plan.min(needed));
+        plan.checked_sub(needed)
+    }
+}
+
 /// Whether some bit must rise, which an erasure alone can do.
-pub(crate) fn must_erase(old: &[u8], new: &[u8]) -> bool
-    requires { (length old.now ≡ 512) × (length new.now ≡ 512) }
+fn must_erase(old: &[u8; BLOCK_LEN], new: &[u8; BLOCK_LEN]) -> bool
     ensures { result ≡ rises old.now new.now }
 {
-    for i in 0..BLOCK_LEN {
-        if old[i] & new[i] != new[i] {
-            return true;
-        }
-    }
-    false
+    old.iter().zip(new).any(|(old, new)| *old & *new != *new)
 }
 
 /// How many operations a whole write takes.
-pub(crate) fn operations(erases: bool) -> usize
+fn operations(erases: bool) -> usize
     ensures { result ≡ operations_of erases }
 {
     if erases { 1 + BLOCK_LEN } else { BLOCK_LEN }
 }
 
 /// The first `count` operations of a write.
-pub(crate) fn work(part: &mut [u8], bytes: &[u8], erases: bool, count: usize)
-    requires { (length part.old ≡ 512) × ((length bytes.now ≡ 512) × (count ≤ operations_of erases)) }
-    ensures { part.new ≡ worked erases count part.old bytes.now }
+fn work(block: &mut [u8; BLOCK_LEN], bytes: &[u8; BLOCK_LEN], erases: bool, count: usize)
+    requires { count ≤ operations_of erases }
+    ensures { block.new ≡ worked erases count block.old bytes.now }
 {
     if !erases {
-        program(part, bytes, count);
+        program(block, bytes, count);
     } else if count > 0 {
-        erase(part);
-        program(part, bytes, count - 1);
+        *block = [ERASED; BLOCK_LEN];
+        program(block, bytes, count - 1);
     }
 }
 
-fn erase(part: &mut [u8])
-    requires { length part.old ≡ 512 }
-    ensures { part.new ≡ filled 0xff }
-{
-    part.fill(ERASED);
-}
-
 /// Programs the first `count` bytes, in order.
-fn program(part: &mut [u8], bytes: &[u8], count: usize)
-    requires { (length part.old ≡ 512) × ((length bytes.now ≡ 512) × (count ≤ 512)) }
-    ensures { part.new ≡ programmed count part.old bytes.now }
+fn program(block: &mut [u8; BLOCK_LEN], bytes: &[u8; BLOCK_LEN], count: usize)
+    requires { count ≤ 512 }
+    ensures { block.new ≡ programmed count block.old bytes.now }
 {
-    for i in 0..count {
-        part[i] &= bytes[i];
+    for (i, byte) in bytes[..count].iter().enumerate() {
+        block[i] &= *byte;
     }
 }

@@ -7,30 +7,46 @@ mod scene;
 mod sweep;
 mod trial;
 
-use store::Residue;
-use sweep::{Make, sweep};
+use chip::Nor;
+use store::{CutPlan, Plain, Residue};
+use sweep::{View, sweep};
+use trial::Tally;
 
-const MAKES: [(&str, Make); 4] = [
-    ("plain, cut leaves old", Make::Plain(Residue::Old)),
-    ("plain, cut leaves new", Make::Plain(Residue::New)),
-    ("plain, cut leaves a5", Make::Plain(Residue::Repeated(0xa5))),
-    ("chip", Make::Chip),
+const RESIDUES: [(&str, Residue); 3] = [
+    ("plain, cut leaves old", Residue::Old),
+    ("plain, cut leaves new", Residue::New),
+    ("plain, cut leaves a5", Residue::Repeated(0xa5)),
 ];
+
+const VIEWS: [View; 2] = [View::Whole, View::Window];
 
 fn main(rt: HostRuntime) -> anyhow::Result<()> {
     println!(rt;
         "{:<36} {:>5} {:>5} {:>5} {:>5}",
         "store", "cuts", "old", "new", "other"
     )?;
-    for (name, make) in MAKES {
-        for (place, windowed) in [("", false), (" in a window", true)] {
-            let tally = sweep(make, windowed)?;
-            let label = format!(in rt.alloc(); "{name}{place}")?;
-            println!(rt;
-                "{label:<36} {:>5} {:>5} {:>5} {:>5}",
-                tally.cuts, tally.old, tally.new, tally.other
-            )?;
+    for (name, leaves) in RESIDUES {
+        for view in VIEWS {
+            let tally = sweep::<Plain, _>(|writes| CutPlan { writes, leaves }, view)?;
+            print(rt, name, view, tally)?;
         }
     }
+    for view in VIEWS {
+        print(
+            rt,
+            "chip",
+            view,
+            sweep::<Nor, _>(|operations| operations, view)?,
+        )?;
+    }
+    Ok(())
+}
+
+fn print(rt: HostRuntime, name: &str, view: View, tally: Tally) -> anyhow::Result<()> {
+    let label = format!(in rt.alloc(); "{name}{view}")?;
+    println!(rt;
+        "{label:<36} {:>5} {:>5} {:>5} {:>5}",
+        tally.cuts, tally.old, tally.new, tally.other
+    )?;
     Ok(())
 }

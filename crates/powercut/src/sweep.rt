@@ -1,79 +1,70 @@
 //! All cuts of one store, one trial for each.
 
 use crate::scene;
-use crate::scene::{FIRST, WRITTEN};
+use crate::scene::{MEMORY_LEN, WRITTEN};
 use crate::trial::{Tally, trial};
-use anyhow::anyhow;
-use chip::ChipStore;
-use store::{BLOCK_LEN, CutPlan, PlainStore, Residue, Store, Window};
+use anyhow::bail;
+use std::fmt;
+use store::{BLOCK_LEN, Make, MemoryStore, Window};
 
 /// More than any plan counts before the writes are done.
 const LIMIT: usize = 4096;
 
-/// A store of either make.
+/// How the store is seen that a trial writes to.
 #[derive(Clone, Copy)]
-pub enum Make {
-    Plain(Residue),
-    Chip,
+pub enum View {
+    Whole,
+    /// Through a window on the blocks that are written.
+    Window,
+}
+
+impl fmt::Display for View {
+    fn fmt<W: fmt::Write>(&self, f: &mut fmt::Formatter<W>) -> fmt::Result {
+        match self {
+            View::Whole => Ok(()),
+            View::Window => write!(f, " in a window"),
+        }
+    }
 }
 
 /// Tries longer and longer plans, up to the first that cuts nothing.
-pub fn sweep(make: Make, windowed: bool) -> anyhow::Result<Tally> {
-    let mut tally = Tally::new();
-    for plan in 0..LIMIT {
+pub fn sweep<M: Make, F: Fn(usize) -> M::Plan>(plan_of: F, view: View) -> anyhow::Result<Tally>
+    requires { F.IsAlwaysCallable plan_of }
+{
+    let mut tally = Tally::default();
+    for length in 0..LIMIT {
         let mut memory = scene::memory();
-        let cut = try_plan(&mut memory, make, windowed, plan, &mut tally)?;
+        let seen = try_plan::<M>(&mut memory, plan_of(length), view)?;
         if !same_outside(&memory, &scene::memory()) {
-            return Err(anyhow!("bytes outside the written blocks have changed"));
+            bail!("bytes outside the written blocks have changed");
         }
-        if !cut {
+        let Some(seen) = seen else {
             return Ok(tally);
-        }
+        };
+        tally += seen;
     }
-    Err(anyhow!("the plans have no end"))
+    bail!("the plans have no end")
 }
 
-fn try_plan(
+fn try_plan<M: Make>(
     memory: &mut [u8],
-    make: Make,
-    windowed: bool,
-    plan: usize,
-    tally: &mut Tally,
-) -> anyhow::Result<bool> {
-    match make {
-        Make::Plain(leaves) => {
-            let mut store = PlainStore::new(memory);
-            store.set_plan(CutPlan {
-                writes: plan,
-                leaves,
-            });
-            try_store(store, windowed, tally)
-        }
-        Make::Chip => {
-            let mut store = ChipStore::new(memory);
-            store.set_plan(plan);
-            try_store(store, windowed, tally)
-        }
-    }
-}
-
-fn try_store<S: Store + Drop>(store: S, windowed: bool, tally: &mut Tally) -> anyhow::Result<bool> {
-    if windowed {
-        let mut window = Window::new(store, FIRST, WRITTEN);
-        trial(&mut window, FIRST, tally)
-    } else {
-        let mut whole = store;
-        trial(&mut whole, 0, tally)
+    plan: M::Plan,
+    view: View,
+) -> anyhow::Result<Option<Tally>> {
+    let mut store = MemoryStore::<M>::new(memory);
+    store.set_plan(plan);
+    match view {
+        View::Whole => trial(&mut store, 0),
+        View::Window => trial(
+            &mut Window::new(store, WRITTEN.start, WRITTEN.len()),
+            WRITTEN.start,
+        ),
     }
 }
 
 /// Whether two memories agree ahead of the written blocks and behind them, past the last block too.
-fn same_outside(a: &[u8], b: &[u8]) -> bool {
-    let Some((front, _)) = a.split_at_checked(BLOCK_LEN * FIRST) else {
-        return false;
-    };
-    let Some((_, back)) = a.split_at_checked(BLOCK_LEN * (FIRST + WRITTEN)) else {
-        return false;
-    };
-    b.starts_with(front) && b.ends_with(back) && a.len() == b.len()
+fn same_outside(a: &[u8; MEMORY_LEN], b: &[u8; MEMORY_LEN]) -> bool {
+    let from = BLOCK_LEN * WRITTEN.start;
+    let to = BLOCK_LEN * WRITTEN.end;
+    a[..from] == b[..from] && a[to..] == b[to..]
 }

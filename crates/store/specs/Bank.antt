@@ -2,8 +2,7 @@
 use Rattle.std.specs.Prelude.{◌≡◌, ℕ, ◌/◌, Bool, true, false, ◌⊎◌, List, length, Some, None, Ok, Err, Option, Result}
 use Rattle.store.specs.declared.fault.Cause.TheVariants.{Dark}
 use Rattle.store.specs.declared.fault.Fault.{Fault}
-use Rattle.store.specs.declared.run.Run.{Run}
-use Rattle.store.specs.declared.run.Run.TheVariants.{Done, Cut}
+use Rattle.store.specs.declared.memory.MemoryStore.{MemoryStore}
 use Rattle.store.specs.Calls.{Admitting}
 use Rattle.store.specs.Faults.{arisen}
 use Rattle.store.specs.Medium.{Medium}
@@ -49,10 +48,11 @@ abbrev pub Tears : {Plan : Type 0} → Cutting Plan → Option Plan → List ℕ
 Tears k None old new torn = ⊥
 Tears k (Some plan) old new torn = k.Cuts plan old new torn
 
--- A write of x into block b of a memory ends so by its plan, and leaves the memory `after`.
-abbrev pub Running : {Plan : Type 0} → Cutting Plan → List ℕ → ℕ → List ℕ → Option Plan → Run Plan → List ℕ → Type 0
-Running k memory b x plan (Done rest) after = (after ≡ laid memory b x) × Spares k plan (block_at memory b) x rest
-Running k memory b x plan Cut after = (torn : List ℕ) × Tears k plan (block_at memory b) x torn × (after ≡ laid memory b torn)
+-- A write of `new` over a block that holds `old` ends so under a plan: it is done, and leaves a plan; or it is cut, and
+-- leaves none. The block then holds `after`.
+abbrev pub Ending : {Plan : Type 0} → Cutting Plan → Plan → List ℕ → List ℕ → Option Plan → List ℕ → Type 0
+Ending k plan old new (Some rest) after = k.Passes plan old new rest × (after ≡ new)
+Ending k plan old new None after = k.Cuts plan old new after
 
 -- The tests ahead of a write answer r.
 abbrev pub Tests : {Plan : Type 0} → Bank Plan → ℕ → List ℕ → Result Unit Fault → Type 0
@@ -63,8 +63,17 @@ Tests s b x r = Admitting (length x) b (length s.memory / 512) s.live r
 abbrev pub Storing : {Plan : Type 0} → Cutting Plan → Bank Plan → ℕ → List ℕ → Result Unit Fault → Bank Plan → Type 0
 Storing k s b x (Ok _) t =
     Tests s b x (Ok tt)
-    × Running k s.memory b x s.plan (Done t.plan) t.memory
+    × (t.memory ≡ laid s.memory b x)
+    × Spares k s.plan (block_at s.memory b) x t.plan
     × (t.live ≡ true)
 Storing k s b x (Err f) t =
     (Tests s b x (Err f) × (t ≡ s))
-    ⊎ (Tests s b x (Ok tt) × (f ≡ arisen Dark b) × Running k s.memory b x s.plan Cut t.memory × (t.live ≡ false) × (t.plan ≡ None))
+    ⊎ (Tests s b x (Ok tt)
+    × (f ≡ arisen Dark b)
+    × ((torn : List ℕ) × Tears k s.plan (block_at s.memory b) x torn × (t.memory ≡ laid s.memory b torn))
+    × (t.live ≡ false)
+    × (t.plan ≡ None))
+
+-- What a store in a memory holds.
+abbrev pub bank_of : {M Plan : Type 0} → MemoryStore M Plan → Bank Plan
+bank_of s = bank s.memory.now s.live s.plan

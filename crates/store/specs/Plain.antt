@@ -1,10 +1,9 @@
 -- The plain store's plan.
 use Rattle.std.specs.Prelude.{◌≡◌, ℕ, ◌-◌, ◌<◌, List}
 use Rattle.store.specs.declared.plain.CutPlan.{CutPlan}
-use Rattle.store.specs.declared.plain.PlainStore.{PlainStore}
 use Rattle.store.specs.declared.plain.Residue.{Residue}
 use Rattle.store.specs.declared.plain.Residue.TheVariants.{Old, New, Repeated}
-use Rattle.store.specs.Bank.{Bank, bank, Cutting}
+use Rattle.store.specs.Bank.{Cutting}
 use Rattle.store.specs.Memory.{filled}
 
 -- What a cut leaves of a block that held `old` and was to hold `new`.
@@ -19,7 +18,3 @@ plain_cutting = record {
   Passes = λ plan old new rest. (0 < plan.writes) × (rest ≡ record { writes = plan.writes - 1; leaves = plan.leaves });
   Cuts = λ plan old new torn. (plan.writes ≡ 0) × (torn ≡ residue_of plan.leaves old new);
 }
-
--- What a plain store holds.
-abbrev pub plain_bank : PlainStore → Bank CutPlan
-plain_bank s = bank s.memory.now s.live s.plan

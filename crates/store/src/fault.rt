@@ -44,10 +44,9 @@ impl Fault {
         ensures { result ≡ passed self block }
     {
         Fault {
-            cause: self.cause,
-            origin: self.origin,
             block,
             layers: self.layers.saturating_add(1),
+            ..self
         }
     }
 }

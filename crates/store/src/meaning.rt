@@ -6,6 +6,7 @@ ghost use Rattle.store.specs.Calls.{Fitting, Admitting, Reading, Writing};
 
 use crate::fault::{Cause, Fault};
 
+// `layout` has the same number for a board's blocks, and stands on no store.
 /// The length of a block.
 pub const BLOCK_LEN: usize = 512;
 

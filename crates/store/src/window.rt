@@ -28,11 +28,7 @@ impl<S: Store> Window<S> {
     pub fn into_lower(self) -> S
         ensures { result ≡ self.lower }
     {
-        let Window {
-            lower,
-            begin: _,
-            size: _,
-        } = self;
+        let Window { lower, .. } = self;
         lower
     }
 
@@ -59,10 +55,7 @@ impl<S: Store> Window<S> {
 fn lift(below: Result<(), Fault>, block: usize) -> Result<(), Fault>
     ensures { result ≡ lifted below block }
 {
-    match below {
-        Ok(()) => Ok(()),
-        Err(fault) => Err(fault.pass(block)),
-    }
+    below.map_err(|fault| fault.pass(block))
 }
 
 impl<S: Store> Store for Window<S> {
@@ -80,6 +73,7 @@ impl<S: Store> Store for Window<S> {
         self.lower.wake();
     }
 
+    // A read and a write differ in what they lend: the store as `&` or as `&mut`, and the bytes the other way.
     fn read(&self, block: usize, buffer: &mut [u8]) -> Result<(), Fault> {
         let place = self.place(block, buffer.len())?;
         lift(self.lower.read(place, buffer), block)

@@ -13,5 +13,5 @@ pub returns : goal.returns
 returns c =
     let q = c.in_ok-admit.ensures in (
       ready c.args.memory.now c.args.live c.args.block (length c.args.buffer.now) q,
-      c.fetch.ensures ∙ sym (held_block c.args.memory.now c.args.block [] q.0.1),
+      c.copy_from_slice.ensures.after ∙ c.held.ensures ∙ sym (held_block c.args.memory.now c.args.block [] q.0.1),
     )
