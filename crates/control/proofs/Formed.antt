@@ -1,9 +1,10 @@
 -- Control blocks by their parts: what is held with its fill, and the two bytes of the check.
-use Rattle.std.proofs.Common.{◌≡◌, ℕ, ◌+◌, ◌-◌, ◌/◌, ◌%◌, ◌<◌, ◌≤◌, Bool, true, false, List, [], ◌∷◌, ◌++◌, length, get_or, take, drop, set, replicate, Decides, sym, refl, ap, ◌∙◌, arith}
+use Rattle.std.proofs.Common.{◌≡◌, ℕ, zero, suc, ◌==◌, rules, tests, ◌+◌, ◌-◌, ◌/◌, ◌%◌, ◌≤◌, Bool, true, false, List, [], ◌∷◌, ◌++◌, length, get_or, take, drop, set, replicate, Decides, sym, refl, ap, ◌∙◌, arith}
 use borrow.Rule.Slice.PartMut.{put_mid}
-use Rattle.std.proofs.lemmas.List.{take-append-drop, length-take, length-drop, drop_more, drop_all, length-append, length-replicate, length-take-le, take_at, get_or_at, get_or-append_right, length-set, take-set, take-set-le, get_or-set_same, get_or-set_other, take-take, drop-take, ext_get_or, get_or-replicate, append_cancel_left}
+use Rattle.std.proofs.lemmas.List.{take-append-drop, length-take, length-drop, drop_more, drop_all, length-append, length-replicate, length-take-le, take_at, get_or_at, get_or-append_right, length-set, take-set, take-set-le, get_or-set_same, get_or-set_other, take-take, drop-take, append_cancel_left}
 use Rattle.std.proofs.lemmas.Slice.{take-put_mid}
 use Rattle.std.proofs.lemmas.Bool.{false≢true}
+use Rattle.std.specs.List.{list_all}
 use Rattle.control.specs.Crc.{crc_of}
 use Rattle.control.specs.Blocks.{body, formed, Filled, Checked}
 
@@ -67,7 +68,6 @@ checked held ys e b =
     let at_low : get_or zs 511 0 ≡ low = get_or-set_same (set ys 510 high) 511 low 0 (omega arith) in
     formed_from_parts held zs n (t ∙ b) (at_high ∙ ap (λ (xs : List ℕ). crc_of xs / 256) (sym t)) (at_low ∙ ap (λ (xs : List ℕ). crc_of xs % 256) (sym t))
 
--- zeros fill 512 bytes behind the first n exactly when each byte from there to the check is 0
 pub split_fill : (n : ℕ) (block : List ℕ) → n ≤ 510 → take 510 block ≡ take n block ++ take (510 - n) (drop n block)
 split_fill n block le =
     let e : n + (510 - n) ≡ 510 = omega arith in
@@ -75,26 +75,38 @@ split_fill n block le =
     ∙ ap (λ (l : List ℕ). l ++ drop n (take 510 block)) (take-take n 510 block le)
     ∙ ap (λ (l : List ℕ). take n block ++ l) (ap (λ (m : ℕ). drop n (take m block)) (sym e) ∙ drop-take n (510 - n) block)
 
+-- zeros, and only zeros, pass the test of each byte
+zeros_from_all : (bytes : List ℕ) → list_all (λ b. b == 0) bytes ≡ true → bytes ≡ replicate (length bytes) 0
+zeros_from_all [] e = refl
+zeros_from_all (b ∷ bytes) e =
+    let head : b ≡ 0 = search (rules, tests) in
+    let rest : list_all (λ b. b == 0) bytes ≡ true = search (rules, tests) in
+    ap (λ x. x ∷ bytes) head ∙ ap (λ l. 0 ∷ l) (zeros_from_all bytes rest)
+
+all_zeros : (n : ℕ) → list_all (λ b. b == 0) (replicate n 0) ≡ true
+all_zeros zero = refl
+all_zeros (suc n) = all_zeros n
+
 pub filled_from_zeros : (n : ℕ) (block : List ℕ) → n ≤ 510 → length block ≡ 512
-    → ((k : ℕ) → k < length (take (510 - n) (drop n block)) → get_or (take (510 - n) (drop n block)) k 0 ≡ 0) → Filled n block
+    → take (510 - n) (drop n block) ≡ replicate (510 - n) 0 → Filled n block
 filled_from_zeros n block le len zeros =
     let front : length (take n block) ≡ n = length-take-le n block (omega arith) in
-    let room : length (take (510 - n) (drop n block)) ≡ 510 - n = simp (length-take, length-drop) (omega arith) in
-    let zs : List ℕ = replicate (510 - n) 0 in
-    let count : length zs ≡ 510 - n = length-replicate {A = ℕ} (510 - n) 0 in
-    let fill : take (510 - n) (drop n block) ≡ zs =
-    ext_get_or 0 (take (510 - n) (drop n block)) zs (room ∙ sym count)
-    (λ k lt. let near : k < 510 - n = omega arith in zeros k lt ∙ sym (get_or-replicate (510 - n) k 0 0 near)) in
-    split_fill n block le ∙ ap (λ (l : List ℕ). take n block ++ l) fill ∙ ap (λ (m : ℕ). take n block ++ replicate (510 - m) 0) (sym front)
+    split_fill n block le ∙ ap (λ (l : List ℕ). take n block ++ l) zeros ∙ ap (λ (m : ℕ). take n block ++ replicate (510 - m) 0) (sym front)
 
-pub zeros_from_filled : (n k : ℕ) (block : List ℕ) → n ≤ 510 → length block ≡ 512 → Filled n block → k < 510 - n
-    → get_or (take (510 - n) (drop n block)) k 0 ≡ 0
-zeros_from_filled n k block le len filled lt =
+pub zeros_from_filled : (n : ℕ) (block : List ℕ) → n ≤ 510 → length block ≡ 512 → Filled n block
+    → take (510 - n) (drop n block) ≡ replicate (510 - n) 0
+zeros_from_filled n block le len filled =
     let front : length (take n block) ≡ n = length-take-le n block (omega arith) in
-    let same : take n block ++ take (510 - n) (drop n block) ≡ take n block ++ replicate (510 - n) 0 =
-    sym (split_fill n block le) ∙ filled ∙ ap (λ (m : ℕ). take n block ++ replicate (510 - m) 0) front in
-    let fill = append_cancel_left (take n block) _ _ same in
-    ap (λ (l : List ℕ). get_or l k 0) fill ∙ get_or-replicate (510 - n) k 0 0 lt
+    append_cancel_left (take n block) _ _
+    (sym (split_fill n block le) ∙ filled ∙ ap (λ (m : ℕ). take n block ++ replicate (510 - m) 0) front)
+
+pub decides_all : (n : ℕ) (block : List ℕ) (r : Bool) → n ≤ 510 → length block ≡ 512
+    → r ≡ list_all (λ b. b == 0) (take (510 - n) (drop n block)) → Decides r (Filled n block)
+decides_all n block r le len e =
+    let room : length (take (510 - n) (drop n block)) ≡ 510 - n = simp (length-take, length-drop) (omega arith) in (
+      (λ t. filled_from_zeros n block le len (zeros_from_all _ (sym e ∙ t) ∙ ap (λ (m : ℕ). replicate m 0) room)),
+      (λ f. e ∙ ap (list_all (λ b. b == 0)) (zeros_from_filled n block le len f) ∙ all_zeros (510 - n)),
+    )
 
 -- a block stands when its fill and its check are right
 pub formed_from_both : (n : ℕ) (block : List ℕ) → n ≤ 510 → length block ≡ 512 → Filled n block → Checked block → block ≡ formed (take n block)
@@ -127,12 +139,3 @@ decides_unfilled n block a le len filled e = (
   (λ t. absurd (false≢true t)),
   (λ f. sym e ∙ filled.1 (filled_from_formed n block le len f)),
 )
-
--- a byte of the fill that is not 0
-pub decides_spoiled : (n k : ℕ) (block : List ℕ) → n ≤ 510 → length block ≡ 512 → k < length (take (510 - n) (drop n block))
-    → (get_or (take (510 - n) (drop n block)) k 0 ≡ 0 → ⊥) → Decides false (Filled n block)
-decides_spoiled n k block le len lt ne =
-    let room : length (take (510 - n) (drop n block)) ≡ 510 - n = simp (length-take, length-drop) (omega arith) in (
-      (λ t. absurd (false≢true t)),
-      (λ f. absurd (ne (zeros_from_filled n k block le len f (omega arith)))),
-    )

@@ -11,11 +11,7 @@ const START: u16 = 0xFFFF;
 pub fn crc16(bytes: &[u8]) -> u16
     ensures { result ≡ crc_of bytes.now }
 {
-    let mut register = START;
-    for byte in bytes {
-        register = take_in(register, *byte);
-    }
-    register
+    bytes.iter().copied().fold(START, take_in)
 }
 
 // The register after one byte more.
@@ -23,7 +19,7 @@ fn take_in(register: u16, byte: u8) -> u16
     ensures { result ≡ taken register byte }
 {
     let mut shifting = register ^ (u16::from(byte) << 8);
-    for bit in 0..8u32 {
+    for _bit in 0..8u32 {
         shifting = shift(shifting);
     }
     shifting

@@ -1,6 +1,6 @@
 //! Control blocks are formed in a buffer.
 
-ghost use Rattle.std.specs.Prelude.{◌≡◌, ◌/◌, ◌%◌, ◌≤◌, length, take, replicate, slice_set};
+ghost use Rattle.std.specs.Prelude.{◌≡◌, ◌/◌, ◌%◌, ◌≤◌, [], ◌∷◌, length, take, slice_set};
 ghost use Rattle.control.specs.Blocks.{body, formed, pointer_to, flag_block};
 ghost use Rattle.control.specs.Calls.{Forms, FormsVectors};
 ghost use Rattle.control.specs.Crc.{crc_of};
@@ -44,36 +44,36 @@ fn form(held: &[u8], block: &mut [u8]) -> Result<(), Refusal>
     requires { length held.now ≤ 510 }
     ensures { Forms block.old (formed held.now) result block.new }
 {
-    if block.len() != BLOCK {
+    let Some(block) = block.as_mut_array::<BLOCK>() else {
         return Err(Refusal::WrongLength);
-    }
+    };
     lay(held, block);
     write_check(block);
     Ok(())
 }
 
 // Lays `held` at the start of a block, and zeros up to the check.
-fn lay(held: &[u8], block: &mut [u8])
-    requires { (length held.now ≤ 510) × (length block.old ≡ 512) }
+fn lay(held: &[u8], block: &mut [u8; BLOCK])
+    requires { length held.now ≤ 510 }
     ensures { take 510 block.new ≡ body held.now }
 {
     let used = held.len();
-    block[0..used].copy_from_slice(held);
-    clear(&mut block[used..CHECK]);
+    block[..used].copy_from_slice(held);
+    block[used..CHECK].fill(0);
 }
 
-// Writes the check of a block, high byte first.
-fn write_check(block: &mut [u8])
-    requires { length block.old ≡ 512 }
+// Writes the check of a block.
+fn write_check(block: &mut [u8; BLOCK])
     ensures { block.new ≡ slice_set (slice_set block.old 510 (crc_of (take 510 block.old) / 256)) 511 (crc_of (take 510 block.old) % 256) }
 {
-    let [high, low] = crc16(&block[0..CHECK]).to_be_bytes();
+    let [high, low] = check_of(block);
     block[CHECK] = high;
     block[CHECK + 1] = low;
 }
 
-fn clear(bytes: &mut [u8])
-    ensures { bytes.new ≡ replicate (length bytes.old) 0 }
+/// The check that is right for a block, as it stands in it: high byte first.
+pub(crate) fn check_of(block: &[u8; BLOCK]) -> [u8; 2]
+    ensures { result ≡ crc_of (take 510 block.now) / 256 ∷ crc_of (take 510 block.now) % 256 ∷ [] }
 {
-    bytes.fill(0);
+    crc16(&block[..CHECK]).to_be_bytes()
 }

@@ -1,5 +1,5 @@
 -- Erased blocks.
-use Rattle.std.proofs.Common.{◌≡◌, ℕ, ◌/◌, ◌≤◌, List, length, get_or, take, replicate, sym, refl, ap, ◌∙◌, arith}
+use Rattle.std.proofs.Common.{◌≡◌, ℕ, ◌/◌, ◌≤◌, List, replicate, sym, refl, ap, ◌∙◌, arith}
 use Rattle.std.proofs.lemmas.List.{length-replicate, get_or-replicate, take-replicate}
 use Rattle.control.specs.Blocks.{size_of, Stands}
 use Rattle.control.specs.Crc.{crc_of}

@@ -1,5 +1,5 @@
 -- The edges of the rules, on one board: an image of 46 bytes and version 7 runs from block 4 on, in a store of 8 blocks.
-use Rattle.std.specs.Prelude.{◌≡◌, ℕ, true, false, List, length, replicate, Some, codes, Option}
+use Rattle.std.specs.Prelude.{◌≡◌, ℕ, false, List, length, replicate, Some, None, codes, Option}
 use Rattle.std.proofs.Common.{lit≤}
 use Rattle.layout.specs.Address.{Addressed, address_of, blocks_of, entry}
 use Rattle.layout.specs.declared.place.Place.{Place}
@@ -18,13 +18,13 @@ running = Some (record { first = 4; len = 46; lies = (lit≤ tt, lit≤ tt, lit�
 
 -- A cycle that executes at this address; one at the entry in which the core writes to it, or DMA.
 abbrev pub executes : ℕ → Cycle
-executes pc = record { pc = pc; writes = false; write_at = 0; dma = false; dma_at = 0; interrupt = false }
+executes pc = record { pc = pc; write_at = None; dma_at = None; interrupt = false }
 
 abbrev pub writes : ℕ → Cycle
-writes address = record { pc = 10252; writes = true; write_at = address; dma = false; dma_at = 0; interrupt = false }
+writes address = record { pc = 10252; write_at = Some address; dma_at = None; interrupt = false }
 
 abbrev pub moves : ℕ → Cycle
-moves address = record { pc = 10252; writes = false; write_at = 0; dma = true; dma_at = address; interrupt = false }
+moves address = record { pc = 10252; write_at = None; dma_at = Some address; interrupt = false }
 
 -- The watch, outside TCR, lets a cycle pass, or resets.
 abbrev pub Passes : Cycle → Type 0

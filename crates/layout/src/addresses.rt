@@ -10,8 +10,8 @@ use crate::placing::{ADDRESSED, BLOCK, BLOCKS_BEGIN, blocks_of};
 /// The end of the core's own region, the trusted code region.
 pub const TCR_END: u16 = 2048;
 
-// The number of guarded control blocks: pointer, vectors and flag.
-const CONTROL_GUARDED: usize = 3;
+/// The number of guarded control blocks: pointer, vectors and flag.
+pub const CONTROL_GUARDED: usize = 3;
 
 // Where the program begins in its image.
 const PROGRAM: u16 = 12;
@@ -61,21 +61,15 @@ impl Place {
 pub fn executable(running: Option<Place>, address: u16) -> bool
     ensures { Decides result (Executable running address) }
 {
-    match running {
-        Some(place) => place.min() <= address && address <= place.max(),
-        None => false,
-    }
+    running.is_some_and(|place| place.min() <= address && address <= place.max())
 }
 
 /// Whether only the core may write to `address` while `running` runs.
 pub fn guarded(running: Option<Place>, address: u16) -> bool
     ensures { Decides result (Guarded running address) }
 {
-    match running {
-        Some(place) => in_blocks(0, CONTROL_GUARDED, address)
-            || in_blocks(place.first, blocks_of(place.len), address),
-        None => in_blocks(0, CONTROL_GUARDED, address),
-    }
+    in_blocks(0, CONTROL_GUARDED, address)
+        || running.is_some_and(|place| in_blocks(place.first, blocks_of(place.len), address))
 }
 
 // Whether `address` lies in the `n` blocks from block `first` on.

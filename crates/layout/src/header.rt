@@ -1,8 +1,8 @@
-//! An image's header and its interrupt vectors.
+//! An image: its header and its interrupt vectors.
 
-ghost use Rattle.std.specs.Prelude.{◌≡◌, ◌+◌, ◌<◌, length, MatchResult};
+ghost use Rattle.std.specs.Prelude.{◌≡◌, MatchResult};
 ghost use Rattle.refusal.specs.declared.Refusal.TheVariants.{BadImage};
-ghost use Rattle.layout.specs.Image.{IsImage, word, vectors_of};
+ghost use Rattle.layout.specs.Image.{IsImage, vectors_of};
 ghost use Rattle.layout.specs.Header.{header_of};
 
 use refusal::Refusal;
@@ -16,18 +16,11 @@ pub const NONCE_LEN: usize = 8;
 /// The length of the interrupt vectors, with which an image ends.
 pub const VECTORS_LEN: usize = 32;
 
-// Where the fields begin.
-const LEN: usize = 0;
-
-const VERSION: usize = 2;
-
-const NONCE: usize = 4;
-
-// The length of a two-byte number.
-const WORD_LEN: usize = 2;
+/// The length of a header.
+pub const HEADER_LEN: usize = 12;
 
 /// What an image says of itself.
-#[derive(Clone, Copy, Debug, Drop)]
+#[derive(Clone, Copy, PartialEq, Eq, Debug, Drop)]
 pub struct Header {
     /// The length of the whole image.
     pub len: u16,
@@ -35,42 +28,74 @@ pub struct Header {
     pub nonce: [u8; NONCE_LEN],
 }
 
-impl Header {
-    /// Reads the header of `image`. Refused where the bytes are no image.
-    pub fn read(image: &[u8]) -> Result<Header, Refusal>
-        ensures { MatchResult result (λ h. IsImage image.now × (h ≡ header_of image.now)) (λ e. (IsImage image.now → ⊥) × (e ≡ BadImage)) }
-    {
-        if image.len() < WORD_LEN {
-            return Err(Refusal::BadImage);
+impl From<&[u8; HEADER_LEN]> for Header {
+    ghost from_gives = { λ bytes h. h ≡ header_of bytes.now };
+
+    fn from(bytes: &[u8; HEADER_LEN]) -> Header {
+        // Named one by one: what is left of a pattern over an array is no array.
+        let [
+            len_low,
+            len_high,
+            version_low,
+            version_high,
+            a,
+            b,
+            c,
+            d,
+            e,
+            f,
+            g,
+            h,
+        ] = *bytes;
+        Header {
+            len: u16::from_le_bytes([len_low, len_high]),
+            version: u16::from_le_bytes([version_low, version_high]),
+            nonce: [a, b, c, d, e, f, g, h],
         }
-        let len = word_at(image, LEN);
-        if len < LEAST_LEN || len as usize != image.len() {
-            return Err(Refusal::BadImage);
-        }
-        let version = word_at(image, VERSION);
-        let mut nonce = [0; NONCE_LEN];
-        nonce.copy_from_slice(&image[NONCE..NONCE + NONCE_LEN]);
-        Ok(Header {
-            len,
-            version,
-            nonce,
-        })
     }
 }
 
-/// The interrupt vectors of `image`. Refused where the bytes are no image.
-pub fn vectors(image: &[u8]) -> Result<&[u8], Refusal>
-    ensures { MatchResult result (λ v. IsImage image.now × (v.now ≡ vectors_of image.now)) (λ e. (IsImage image.now → ⊥) × (e ≡ BadImage)) }
-{
-    let header = Header::read(image)?;
-    let (_, vectors) = image.split_at(header.len as usize - VECTORS_LEN);
-    Ok(vectors)
+/// Bytes that are an image.
+#[derive(Clone, Copy)]
+pub struct Image<'a> {
+    bytes: &'a [u8],
+    ghost is: { IsImage bytes.now },
 }
 
-// The two-byte number at `place`, low byte first.
-fn word_at(bytes: &[u8], place: usize) -> u16
-    requires { place + 1 < length bytes.now }
-    ensures { result ≡ word bytes.now place }
-{
-    u16::from_le_bytes([bytes[place], bytes[place + 1]])
+impl<'a> Image<'a> {
+    /// The image that `bytes` are. Refused where they are none.
+    pub fn read(bytes: &'a [u8]) -> Result<Image<'a>, Refusal>
+        ensures { MatchResult result (λ i. IsImage bytes.now × (i.bytes.now ≡ bytes.now)) (λ e. (IsImage bytes.now → ⊥) × (e ≡ BadImage)) }
+    {
+        let Some(head) = bytes.first_chunk::<HEADER_LEN>() else {
+            return Err(Refusal::BadImage);
+        };
+        let header = Header::from(head);
+        if header.len < LEAST_LEN || header.len as usize != bytes.len() {
+            return Err(Refusal::BadImage);
+        }
+        Ok(Image { bytes })
+    }
+
+    /// Its bytes.
+    pub fn bytes(self) -> &'a [u8]
+        ensures { result.now ≡ self.entry.bytes.now }
+    {
+        self.bytes
+    }
+
+    /// Its header.
+    pub fn header(self) -> Header
+        ensures { result ≡ header_of self.entry.bytes.now }
+    {
+        Header::from(self.bytes.first_chunk::<HEADER_LEN>().unwrap())
+    }
+
+    /// Its interrupt vectors.
+    pub fn vectors(self) -> &'a [u8; VECTORS_LEN]
+        ensures { result.now ≡ vectors_of self.entry.bytes.now }
+    {
+        let last = self.bytes.last_chunk::<VECTORS_LEN>();
+        last.unwrap()
+    }
 }

@@ -7,8 +7,8 @@ mod header;
 mod place;
 mod placing;
 
-pub use addresses::{TCR_END, address, executable, guarded, in_tcr};
-pub use header::{Header, LEAST_LEN, NONCE_LEN, VECTORS_LEN, vectors};
+pub use addresses::{CONTROL_GUARDED, TCR_END, address, executable, guarded, in_tcr};
+pub use header::{HEADER_LEN, Header, Image, LEAST_LEN, NONCE_LEN, VECTORS_LEN};
 pub use place::Place;
 pub use placing::{
     ADDRESSED, BLOCK, BLOCKS_BEGIN, FIRST_FREE, blocks_of, goes_past, is_newer, is_open, shares,

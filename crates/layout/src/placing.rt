@@ -24,14 +24,14 @@ pub const BLOCKS_BEGIN: u16 = 8192;
 pub fn blocks_of(len: u16) -> usize
     ensures { result ≡ blocks_of len }
 {
-    (len as usize + BLOCK - 1) / BLOCK
+    (len as usize).div_ceil(BLOCK)
 }
 
 /// Whether `block` may be staged or offered in a store of `count` blocks.
 pub fn is_open(block: usize, count: usize) -> bool
     ensures { Decides result (Open count block) }
 {
-    FIRST_FREE <= block && block < count.min(ADDRESSED)
+    (FIRST_FREE..count.min(ADDRESSED)).contains(&block)
 }
 
 /// Whether an image of `len` bytes from block `first` on goes past the end of a store of `count` blocks, or of the
@@ -51,6 +51,7 @@ pub fn is_newer(version: u16, running: u16) -> bool
     running < version
 }
 
+// Of any numbers: what is asked of two images is asked whether they are places or not.
 /// Whether the image of `len` bytes from block `first` on shares a block with the one of `other_len` bytes from
 /// `other` on.
 pub fn shares(first: usize, len: u16, other: usize, other_len: u16) -> bool

@@ -1,18 +1,15 @@
 -- The front of a buffer that holds a tag, and the message that a board confirms.
-use Rattle.std.proofs.Common.{◌≡◌, ℕ, ◌-◌, ◌/◌, ◌%◌, List, [], ◌∷◌, length, get_or, take, sym, refl, ap, ◌∙◌}
-use native.Mathlib.Nat.{sub-zero}
+use Rattle.std.proofs.Common.{◌≡◌, ℕ, ◌/◌, ◌%◌, List, [], ◌∷◌, length, get_or, take, sym, refl, ap, ◌∙◌}
 use Rattle.std.proofs.lemmas.List.FromFn.{fill_by_all}
-use Rattle.authenticator.specs.Meaning.{Meaning, tag, padded}
+use Rattle.authenticator.specs.Meaning.{Meaning, padded}
 use Rattle.authenticator.proofs.Padding.{front_padded}
 use Rattle.planner.specs.Confirmation.{confirmation_of}
 
-pub front_confirmation : (m : Meaning) (k : m.Key) (version : ℕ) (nonce message out : List ℕ) (n : ℕ)
-    → message ≡ version % 256 ∷ version / 256 % 256 ∷ nonce → n ≡ m.size → out ≡ padded (tag m k (1 ∷ message))
-    → take (n - 0) out ≡ confirmation_of m k version nonce
-front_confirmation m k version nonce message out n em en e =
-    ap (λ i. take i out) (sub-zero n ∙ en) ∙ ap (take m.size) e
-    ∙ front_padded (tag m k (1 ∷ message)) m.size (m.sized k (m.feeds k (m.begin k) (1 ∷ message)))
-    ∙ ap (λ q. tag m k (1 ∷ q)) em
+pub front_confirmed : (m : Meaning) (k : m.Key) (version : ℕ) (nonce out : List ℕ) (n : ℕ)
+    → n ≡ m.size → out ≡ padded (confirmation_of m k version nonce) → take n out ≡ confirmation_of m k version nonce
+front_confirmed m k version nonce out n en e =
+    ap (λ i. take i out) en ∙ ap (take m.size) e
+    ∙ front_padded (confirmation_of m k version nonce) m.size (m.sized k (m.feeds k (m.begin k) (1 ∷ version % 256 ∷ version / 256 % 256 ∷ nonce)))
 
 -- the bytes of a version and of a nonce, one by one
 pub listed : (word nonce : List ℕ) (low high : ℕ) → word ≡ low ∷ high ∷ [] → length nonce ≡ 8

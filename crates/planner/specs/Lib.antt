@@ -1,2 +1,3 @@
 pub mod Confirmation
 pub mod Token
+pub mod Purpose

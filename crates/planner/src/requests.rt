@@ -1,25 +1,23 @@
 //! What the planner asks of a board: that it confirms a version and a nonce.
 
-ghost use Rattle.std.specs.Prelude.{◌≡◌, ◌/◌, ◌%◌, ◌∷◌, length, MatchResult, ◌≢◌};
+ghost use Rattle.std.specs.Prelude.{◌≡◌, length, MatchResult, ◌≢◌};
 ghost use Rattle.planner.specs.Confirmation.{confirmation_of, Rejects};
 
-use authenticator::{Authenticator, TAG_BUFFER, same, tag_into};
+use crate::confirmations::confirm;
+use authenticator::{Authenticator, TAG_BUFFER, same};
+use layout::NONCE_LEN;
 use refusal::Refusal;
-
-/// The byte ahead of a version and a nonce in their tag: it keeps confirmations apart from every other tag under the
-/// same key.
-const CONFIRMATION: u8 = 1;
 
 /// An open request. It is spent by `verify` or by `give_up`, and by nothing else: it is not `Drop`, so that code that
 /// forgets one does not build.
 pub struct Request {
     version: u16,
-    nonce: [u8; 8],
+    nonce: [u8; NONCE_LEN],
 }
 
 impl Request {
     /// Opens a request for a version and a nonce.
-    pub fn open(version: u16, nonce: [u8; 8]) -> Request
+    pub fn open(version: u16, nonce: [u8; NONCE_LEN]) -> Request
         ensures version { result.version ≡ version }
         ensures nonce { result.nonce ≡ nonce }
     {
@@ -49,22 +47,13 @@ impl Request {
         if confirmation.len() != K::tag_len() {
             return Err(Refusal::TagLength);
         }
-        let asked = message(version, nonce);
-        let mut out = [0; TAG_BUFFER];
-        tag_into(authenticator, CONFIRMATION, &asked, &mut out)?;
-        if same(&out[0..K::tag_len()], confirmation) {
+        // A buffer for the tag of any authenticator, and its front: there is no heap.
+        let mut expected = [0; TAG_BUFFER];
+        confirm(authenticator, version, nonce, &mut expected)?;
+        if same(&expected[..K::tag_len()], confirmation) {
             Ok(())
         } else {
             Err(Refusal::WrongConfirmation)
         }
     }
-}
-
-// What a board confirms: the version, low byte first, and the nonce.
-fn message(version: u16, nonce: [u8; 8]) -> [u8; 10]
-    ensures { result ≡ version % 256 ∷ version / 256 % 256 ∷ nonce }
-{
-    let [low, high] = version.to_le_bytes();
-    let [a, b, c, d, e, f, g, h] = nonce;
-    [low, high, a, b, c, d, e, f, g, h]
 }

@@ -5,12 +5,10 @@ ghost use Rattle.authenticator.specs.Meaning.{padded};
 ghost use Rattle.layout.specs.Image.{IsImage};
 ghost use Rattle.planner.specs.Token.{token_of, Refuses};
 
+use crate::purpose::Purpose;
 use authenticator::{Authenticator, TAG_BUFFER, tag_into};
-use layout::Header;
+use layout::Image;
 use refusal::Refusal;
-
-/// The byte ahead of an image in its tag: it keeps tokens apart from every other tag under the same key.
-const TOKEN: u8 = 0;
 
 /// Writes the image's token, then zeros, into `out`. A refusal changes nothing.
 pub fn token<K: Authenticator>(
@@ -26,6 +24,6 @@ pub fn token<K: Authenticator>(
     if out.len() != TAG_BUFFER {
         return Err(Refusal::WrongLength);
     }
-    Header::read(image)?;
-    tag_into(authenticator, TOKEN, image, out)
+    Image::read(image)?;
+    tag_into(authenticator, Purpose::Token.byte(), image, out)
 }

@@ -1,5 +1,5 @@
 -- What the rules keep over a run.
-use Rattle.std.proofs.Common.{◌≡◌, ℕ, false, ◌⊎◌, List, [], ◌∷◌, ◌++◌, take, Some, None, Option, refl, inl, inr, ⊎_elim, arith}
+use Rattle.std.proofs.Common.{◌≡◌, ℕ, false, ◌⊎◌, List, [], ◌∷◌, ◌++◌, take, Some, None, IsSome, Option, refl, inl, inr, ⊎_elim, arith}
 use Rattle.std.specs.List.{AllByRecursion}
 use Rattle.std.proofs.lemmas.Bool.{cases_lt, cases_eq, cases_Bool}
 use Rattle.layout.specs.Address.{InTcr, ermin, ermax}
@@ -24,16 +24,21 @@ unbroken running Reset c not (inr (inr (inl w))) = not (inl (λ e. omega arith))
 unbroken running Reset c not (inr (inr (inr (inl w)))) = not (inl (λ e. omega arith))
 unbroken running Reset c not (inr (inr (inr (inr w)))) = not (inr w)
 
+-- what is not there is none
+none_of : (o : Option ℕ) → (IsSome o → ⊥) → o ≡ None
+none_of (Some x) absent = absurd (absent refl)
+none_of None absent = refl
+
 -- one cycle
 pub unwritten_one : (running : Option Place) (state : Watch) (c : Cycle) → (Broken running state c → ⊥)
     → Out c → (address : ℕ) → Writes c address → Guarded running address → ⊥
 unwritten_one running state c not out address w g = not (inl (out, (address, w, g)))
 
 pub quiet_one : (running : Option Place) (state : Watch) (c : Cycle) → (Broken running state c → ⊥)
-    → InTcr c.pc → (c.interrupt ≡ false) × (c.dma ≡ false)
+    → InTcr c.pc → (c.interrupt ≡ false) × (c.dma_at ≡ None)
 quiet_one running state c not in' = (
   ⊎_elim (λ t. absurd (not (inr (inr (inr (inr (in', inl t))))))) (λ f. f) (cases_Bool c.interrupt),
-  ⊎_elim (λ t. absurd (not (inr (inr (inr (inr (in', inr t))))))) (λ f. f) (cases_Bool c.dma),
+  none_of c.dma_at (λ t. not (inr (inr (inr (inr (in', inr t)))))),
 )
 
 -- an address is executable or not
@@ -140,7 +145,7 @@ kept running cycles answers h = record {
   begun = first_passed running cycles answers h;
   entered = next_from_reset running (λ a b. Out a → InTcr b.pc → b.pc ≡ 0) (entered_one running) cycles answers h;
   left = next_from_reset running (λ a b. InTcr a.pc → Out b → a.pc ≡ 2047) (left_one running) cycles answers h;
-  quiet = all_passed running (λ c. InTcr c.pc → (c.interrupt ≡ false) × (c.dma ≡ false)) (quiet_one running) Reset cycles answers h;
+  quiet = all_passed running (λ c. InTcr c.pc → (c.interrupt ≡ false) × (c.dma_at ≡ None)) (quiet_one running) Reset cycles answers h;
   executed = all_passed running (λ c. InTcr c.pc ⊎ Executable running c.pc) (executed_one running) Reset cycles answers h;
 }
 

@@ -1,5 +1,5 @@
 -- The rules of the watch, each as what breaks it, and the step that they make.
-use Rattle.std.specs.Prelude.{◌≡◌, ℕ, ◌<◌, ◌≤◌, true, ◌⊎◌, Some, None, Option, ◌≢◌}
+use Rattle.std.specs.Prelude.{◌≡◌, ℕ, ◌<◌, ◌≤◌, true, ◌⊎◌, Some, None, IsSome, Option, ◌≢◌}
 use Rattle.layout.specs.Address.{InTcr}
 use Rattle.layout.specs.declared.place.Place.{Place}
 use Rattle.layout.specs.Running.{Executable, Guarded}
@@ -17,7 +17,7 @@ Out c = 2048 ≤ c.pc
 
 -- The core, or DMA, writes to an address.
 abbrev pub Writes : Cycle → ℕ → Type 0
-Writes c address = ((c.writes ≡ true) × (address ≡ c.write_at)) ⊎ ((c.dma ≡ true) × (address ≡ c.dma_at))
+Writes c address = (c.write_at ≡ Some address) ⊎ (c.dma_at ≡ Some address)
 
 -- W1: a guarded address is written from outside TCR.
 abbrev pub W1 : Option Place → Cycle → Type 0
@@ -37,7 +37,7 @@ W4 state c = (state ≡ Inside) × Out c
 
 -- W5: an interrupt or DMA in TCR.
 abbrev pub W5 : Cycle → Type 0
-W5 c = InTcr c.pc × ((c.interrupt ≡ true) ⊎ (c.dma ≡ true))
+W5 c = InTcr c.pc × ((c.interrupt ≡ true) ⊎ IsSome c.dma_at)
 
 -- The number of a rule.
 abbrev pub number_of : Rule → ℕ

@@ -1,5 +1,5 @@
 -- Runs of the watch: what becomes of many cycles, one after the other, from reset on.
-use Rattle.std.specs.Prelude.{◌≡◌, ℕ, suc, false, ◌⊎◌, List, [], ◌∷◌, Option}
+use Rattle.std.specs.Prelude.{◌≡◌, ℕ, suc, false, ◌⊎◌, List, [], ◌∷◌, None, Option}
 use Rattle.std.specs.List.{AllByRecursion}
 use Rattle.layout.specs.Address.{InTcr}
 use Rattle.layout.specs.declared.place.Place.{Place}
@@ -57,6 +57,6 @@ pub record Kept (running : Option Place) (passed : List Cycle) : Type 0 where
   -- it is left from 2047 only,
   pub left : EachNext (λ a b. InTcr a.pc → Out b → a.pc ≡ 2047) passed
   -- there is neither an interrupt nor DMA in it,
-  pub quiet : AllByRecursion (λ c. InTcr c.pc → (c.interrupt ≡ false) × (c.dma ≡ false)) passed
+  pub quiet : AllByRecursion (λ c. InTcr c.pc → (c.interrupt ≡ false) × (c.dma_at ≡ None)) passed
   -- and outside it nothing is executed but the running image.
   pub executed : AllByRecursion (λ c. InTcr c.pc ⊎ Executable running c.pc) passed

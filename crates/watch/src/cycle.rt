@@ -4,12 +4,12 @@
 #[derive(Clone, Copy, PartialEq, Eq, Debug)]
 pub struct Cycle {
     pub pc: u16,
-    /// The core writes, to `write_at`.
-    pub writes: bool,
-    pub write_at: u16,
-    /// DMA accesses `dma_at`.
-    pub dma: bool,
-    pub dma_at: u16,
+    /// The address that the core writes to, if it writes.
+    pub write_at: Option<u16>,
+    /// The address that DMA accesses, if it does.
+    pub dma_at: Option<u16>,
+    /// Whether an interrupt is taken.
+    // A signal alone, with no value beside it.
     pub interrupt: bool,
 }
 

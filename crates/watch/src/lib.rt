@@ -5,6 +5,7 @@
 mod cycle;
 mod rules;
 mod runs;
+mod words;
 
 pub use cycle::{Cycle, Rule, Verdict, Watch};
 pub use runs::run;

@@ -7,6 +7,7 @@ use crate::cycle::{Cycle, Rule, Verdict, Watch};
 use layout::{Place, TCR_END, executable, guarded, in_tcr};
 
 impl Watch {
+    // The guards stand here and the rules' names in `broken`: a cycle after a reset is stopped without a rule.
     /// Judges one cycle while `running` runs: the verdict, and the state for the next cycle.
     pub fn step(self, running: Option<Place>, cycle: Cycle) -> (Verdict, Watch)
         ensures { Steps running self cycle result }
@@ -60,7 +61,8 @@ fn w1(running: Option<Place>, c: Cycle) -> bool
     ensures { Decides result (W1 running c) }
 {
     !in_tcr(c.pc)
-        && (c.writes && guarded(running, c.write_at) || c.dma && guarded(running, c.dma_at))
+        && (c.write_at.is_some_and(|at| guarded(running, at))
+            || c.dma_at.is_some_and(|at| guarded(running, at)))
 }
 
 // Whether the PC is neither in TCR nor executable.
@@ -88,7 +90,7 @@ fn w4(state: Watch, c: Cycle) -> bool
 fn w5(c: Cycle) -> bool
     ensures { Decides result (W5 c) }
 {
-    in_tcr(c.pc) && (c.interrupt || c.dma)
+    in_tcr(c.pc) && (c.interrupt || c.dma_at.is_some())
 }
 
 // The state that tells where the PC was.

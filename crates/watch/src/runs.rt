@@ -17,6 +17,7 @@ pub fn run(running: Option<Place>, cycles: &[Cycle]) -> (Watch, usize)
     for (i, cycle) in cycles.iter().enumerate() {
         let (verdict, next) = state.step(running, *cycle);
         state = next;
+        // Counted beside the index, since the run goes on after its first reset.
         if passes == i && verdict == Verdict::Pass {
             passes += 1;
         }

@@ -1,6 +1,6 @@
-use Rattle.std.proofs.Common.{◌∙◌, arith}
+use Rattle.std.proofs.Common.{◌∙◌, rules}
 use Rattle.control.proofs.Formed.{checked}
 use Rattle.control.proofs.forming.form.Goals as goal
 
 pub returns : goal.returns
-returns c = (omega arith, c.write_check.ensures ∙ checked c.args.held.now c.lay.new.block (omega arith) c.lay.ensures)
+returns c = (search rules, c.write_check.ensures ∙ checked c.args.held.now c.lay.new.block c.lay.array_long c.lay.ensures)

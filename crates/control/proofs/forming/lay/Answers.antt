@@ -5,5 +5,5 @@ use Rattle.control.proofs.forming.lay.Goals as goal
 
 pub returns : goal.returns
 returns c =
-    laid c.args.held.now c.copy_from_slice.new.self _ c.clear.new.bytes c.copy_from_slice.ensures.after
-    (omega arith) (simp (length-append, length-drop) (omega arith)) c.clear.ensures
+    laid c.args.held.now c.copy_from_slice.new.self _ c.fill.new.self
+    c.copy_from_slice.ensures.after (omega arith) (simp (length-append, length-drop) (omega arith)) (c.fill.ensures.after (λ y e. e))
