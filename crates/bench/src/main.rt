@@ -5,9 +5,7 @@
 
 use anyhow::anyhow;
 use authenticator::Authenticator;
-use cmac::Cmac;
 use commands::push_hex;
-use hmac::Hmac;
 use std::time::Instant;
 
 const PART: usize = 50_000;
@@ -15,15 +13,12 @@ const PART: usize = 50_000;
 const RUNS: u32 = 200;
 
 fn main(rt: HostRuntime) -> anyhow::Result<()> {
-    let mut part = Vec::with_capacity(rt.alloc(), PART)?;
-    for i in 0..PART {
-        part.push((i % 251) as u8)?;
-    }
-    let Ok(mut hmac) = Hmac::new(&[0x5a; 32], &mut [0; 64]) else {
+    let part: Vec<u8> = (0..PART).map(|i| (i % 251) as u8).collect(rt.alloc())?;
+    let Ok(mut hmac) = hmac::keyed(&[0x5a; 32], &mut [0; 64]) else {
         return Err(anyhow!("the key was refused"));
     };
     measure(&rt, "HMAC-SHA-256", &mut hmac, part.as_slice())?;
-    let Ok(mut cmac) = Cmac::new(&[0x5a; 16]) else {
+    let Ok(mut cmac) = cmac::keyed(&[0x5a; 16]) else {
         return Err(anyhow!("the key was refused"));
     };
     measure(&rt, "AES-CMAC", &mut cmac, part.as_slice())
@@ -43,7 +38,8 @@ fn measure<K: Authenticator>(
     }
     let bytes = part.len();
     let mut text = String::new(rt.alloc());
-    push_hex(&mut text, &tag[0..K::tag_len()])?;
+    // The front of a buffer for the tag of any authenticator.
+    push_hex(&mut text, &tag[..K::tag_len()])?;
     eprintln!(rt; "{name}: {bytes} bytes in {best} ns")?;
     println!(rt; "{name}: {bytes} bytes, tag {text}")?;
     Ok(())

@@ -10,6 +10,7 @@ ghost use Rattle.hmac.specs.Hmac.{hmac};
 use cmac::cmac_into;
 use hmac::hmac_into;
 
+// C knows no enum with a value: 0 stands for success, else the refusal's number, and each kind has a function.
 /// The HMAC-SHA-256 of `message`: 0, and the tag in `out`; or the refusal's number, and `out` as it was.
 #[unsafe(no_mangle)]
 pub extern "C" fn bench_hmac(key: &[u8], message: &[u8], out: &mut [u8]) -> u8

@@ -3,18 +3,19 @@
 #![tactic(auto)]
 
 use anyhow::anyhow;
+use commands::Failure;
 use dispatch::run;
 use std::env;
 
 fn main(rt: HostRuntime) -> anyhow::Result<()> {
     let words: Vec<String> = env::args(&rt)?.skip(1).collect(rt.alloc())?;
-    let outcome = run(&rt, words.as_slice())?;
-    let text = outcome.text;
-    if outcome.status == 0 {
-        print!(rt; "{text}")?;
-        Ok(())
-    } else {
-        eprint!(rt; "changeover: {text}")?;
-        Err(anyhow!("failed"))
+    match run(&rt, words.as_slice()) {
+        Ok(text) => print!(rt; "{text}")?,
+        Err(Failure::Cause(text)) => {
+            eprint!(rt; "changeover: {text}")?;
+            return Err(anyhow!("failed"));
+        }
+        Err(Failure::Memory(e)) => return Err(e.into()),
     }
+    Ok(())
 }

@@ -1,3 +1,4 @@
+pub mod Failure
 pub mod Hex
 pub mod Key
 pub mod Kind

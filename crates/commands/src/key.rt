@@ -1,11 +1,11 @@
 //! How a key file is read.
 
-ghost use Rattle.std.specs.Prelude.{◌≡◌, ◌*◌, ◌⊎◌, length, IfOk, vec_items, vec_len, OnErr};
-ghost use Rattle.std.specs.Result.{result_map_both};
-ghost use Rattle.commands.specs.Key.{line, key_of};
+ghost use Rattle.std.specs.Prelude.{◌≡◌, IfOk, vec_len};
+ghost use Rattle.commands.specs.Key.{line, Read};
 
+use crate::failure::Failure;
 use crate::hex::from_hex;
-use std::alloc::{AllocError, Global};
+use std::alloc::Global;
 
 /// Why a file holds no key.
 #[derive(Clone, Copy, PartialEq, Eq, Debug, Drop)]
@@ -16,26 +16,25 @@ pub enum KeyFault {
     NotHex,
 }
 
+// The length is the key's, by the authenticator, and not the file's.
 /// Reads the key of `len` bytes that `file` holds. A file of that length is the key itself; one of twice as many
 /// digits in either case, and at most a newline behind them, is the key in hex.
-pub fn read_key(
-    heap: Global,
-    file: &[u8],
-    len: usize,
-) -> Result<Result<Vec<u8>, KeyFault>, AllocError>
-    ensures value { IfOk result (λ key. result_map_both vec_items (λ fault. fault) key ≡ key_of len file.now) }
-    ensures len { IfOk result (λ key. IfOk key (λ v. vec_len v ≡ len)) }
-    ensures refused { OnErr result ((length file.now ≡ len) ⊎ (length (line file.now) ≡ 2 * len)) }
+pub fn read_key(heap: Global, file: &[u8], len: usize) -> Result<Vec<u8>, Failure<KeyFault>>
+    ensures value { Read len file.now result }
+    ensures len { IfOk result (λ v. vec_len v ≡ len) }
 {
     if file.len() == len {
-        return Ok(Ok(Vec::from_slice(heap, file)?));
+        return Ok(Vec::from_slice(heap, file)?);
     }
     let digits = without_newline(file);
     // Halves, since twice `len` may pass the largest number.
     if digits.len() / 2 != len || digits.len() % 2 != 0 {
-        return Ok(Err(KeyFault::WrongLength));
+        return Err(Failure::Cause(KeyFault::WrongLength));
     }
-    Ok(from_hex(heap, digits)?.ok_or(KeyFault::NotHex))
+    match from_hex(heap, digits)? {
+        Some(key) => Ok(key),
+        None => Err(Failure::Cause(KeyFault::NotHex)),
+    }
 }
 
 // `text` without the newline at its end, if it has one there.

@@ -11,6 +11,7 @@ pub enum Kind {
 }
 
 impl Kind {
+    // A text of its own and no `Display`: it is pushed as it is, and its contract names its bytes.
     /// The authenticator's name, as it is printed.
     pub fn name(self) -> &'static str
         ensures { result.now ≡ name_of self }
@@ -21,6 +22,7 @@ impl Kind {
         }
     }
 
+    // By the standards: that keys and tags of each are of one length is chance.
     /// The length of its keys.
     pub fn key_len(self) -> usize
         ensures { result ≡ key_length self }

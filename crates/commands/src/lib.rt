@@ -2,14 +2,14 @@
 
 #![tactic(auto)]
 
+mod failure;
 mod hex;
 mod key;
 mod kinds;
-mod outcome;
 mod reports;
 mod tags;
 
+pub use failure::{Failure, failed};
 pub use hex::{from_hex, push_hex};
 pub use kinds::Kind;
-pub use outcome::Outcome;
-pub use reports::{failed, token_report, verify_report};
+pub use reports::{header_text, token_report, verify_report};

@@ -1,65 +1,90 @@
 //! What the commands print.
 
-ghost use Rattle.std.specs.Prelude.{◌≡◌, ◌≤◌, length, IfOk, string_bytes};
+ghost use Rattle.std.specs.Prelude.{◌≡◌, ◌++◌, IfOk, string_bytes};
+ghost use Rattle.commands.specs.Failure.{IsCause};
+ghost use Rattle.commands.specs.Hex.{hex_of};
 ghost use Rattle.commands.specs.Key.{key_of};
 ghost use Rattle.commands.specs.Kind.{key_length};
-ghost use Rattle.commands.specs.Report.{token_text, Reports, Judges};
+ghost use Rattle.commands.specs.Report.{numbers_text, token_text, Reports, Judges, Ends};
 
+use crate::failure::{Failure, failed};
 use crate::hex::push_hex;
-use crate::key::KeyFault;
+use crate::key::{KeyFault, read_key};
 use crate::kinds::Kind;
-use crate::outcome::Outcome;
-use crate::tags::{Fault, check_confirmation, make_token};
-use layout::{Header, LEAST_LEN, vectors};
+use crate::tags::{check_confirmation, make_token};
+use layout::{Header, Image, LEAST_LEN};
+use planner::Request;
 use refusal::Refusal;
 use std::alloc::{AllocError, Global};
 
-/// What `changeover token` answers, from the bytes of its two files.
+// Kind and key file come from two places of a command line, and only `read_key` and what is printed join them.
+/// What `changeover token` makes of the bytes of its two files.
 pub fn token_report(
     heap: Global,
     kind: Kind,
     key_file: &[u8],
     image: &[u8],
-) -> Result<Outcome, AllocError>
-    ensures told { IfOk result (λ o. Reports kind (key_of (key_length kind) key_file.now) image.now o.status (string_bytes o.text)) }
-    ensures status { IfOk result (λ o. o.status ≤ 1) }
+) -> Result<String, Failure<String>>
+    ensures { Ends result (Reports kind (key_of (key_length kind) key_file.now) image.now) }
 {
-    match make_token(heap, kind, key_file, image)? {
-        Ok(token) => match (Header::read(image), vectors(image)) {
-            (Ok(header), Ok(vectors)) => {
-                let tag = &token[0..kind.tag_len()];
-                Ok(Outcome {
-                    text: token_text(heap, kind, &header, vectors, tag)?,
-                    status: 0,
-                })
-            }
-            _ => unreachable(),
-        },
-        Err(Fault::Key(fault)) => failed(key_text(heap, kind, fault, key_file.len())),
-        Err(Fault::Refused(refusal)) => failed(image_text(heap, refusal, image)),
-    }
+    let key = match read_key(heap, key_file, kind.key_len()) {
+        Ok(key) => key,
+        Err(failure) => return keyless(heap, kind, key_file, failure),
+    };
+    let image = match Image::read(image) {
+        Ok(image) => image,
+        Err(refusal) => return failed(image_text(heap, refusal, image)),
+    };
+    // As `token` leaves it, with zeros behind the tag: a copy of the front would be one thing more that can fail.
+    let token = make_token(kind, key.as_slice(), image);
+    let tag = &token[..kind.tag_len()];
+    Ok(token_text(heap, kind, &image.header(), image.vectors(), tag)?)
 }
 
-/// What `changeover verify` answers, from the bytes of its key file and the values of its words.
+/// What `changeover verify` makes of the bytes of its key file and of the values of its words.
 pub fn verify_report(
     heap: Global,
     kind: Kind,
     key_file: &[u8],
-    version: u16,
-    nonce: [u8; 8],
+    request: Request,
     confirmation: &[u8],
-) -> Result<Outcome, AllocError>
-    ensures told { IfOk result (λ o. Judges kind (key_of (key_length kind) key_file.now) version nonce confirmation.now o.status (string_bytes o.text)) }
-    ensures status { IfOk result (λ o. o.status ≤ 1) }
+) -> Result<String, Failure<String>>
+    ensures { Ends result (Judges kind (key_of (key_length kind) key_file.now) request.version request.nonce confirmation.now) }
 {
-    match check_confirmation(heap, kind, key_file, version, nonce, confirmation)? {
-        Ok(()) => Ok(Outcome {
-            text: String::from_str(heap, "yes\n")?,
-            status: 0,
-        }),
-        Err(Fault::Key(fault)) => failed(key_text(heap, kind, fault, key_file.len())),
-        Err(Fault::Refused(refusal)) => failed(refusal_text(heap, refusal)),
+    let key = match read_key(heap, key_file, kind.key_len()) {
+        Ok(key) => key,
+        Err(failure) => {
+            request.give_up();
+            return keyless(heap, kind, key_file, failure);
+        }
+    };
+    match check_confirmation(kind, key.as_slice(), request, confirmation) {
+        Ok(()) => Ok(String::from_str(heap, "yes\n")?),
+        Err(refusal) => failed(refusal_text(heap, refusal)),
     }
+}
+
+// What a command answers that has no key.
+fn keyless(
+    heap: Global,
+    kind: Kind,
+    key_file: &[u8],
+    failure: Failure<KeyFault>,
+) -> Result<String, Failure<String>>
+    ensures { Ends result (λ status text. (status ≡ 1) × IsCause failure) }
+{
+    failed(key_text(heap, kind, failure.cause()?, key_file.len()))
+}
+
+/// What an image says of itself: its length, its version and its nonce.
+pub fn header_text(heap: Global, header: &Header) -> Result<String, AllocError>
+    ensures { IfOk result (λ text. string_bytes text ≡ numbers_text header.now ++ hex_of header.now.nonce) }
+{
+    let len = header.len;
+    let version = header.version;
+    let mut text = format!(in heap; "length {len}\nversion {version}\nnonce ")?;
+    push_hex(&mut text, &header.nonce)?;
+    Ok(text)
 }
 
 // The lines that tell of an image and its token.
@@ -72,10 +97,7 @@ fn token_text(
 ) -> Result<String, AllocError>
     ensures { IfOk result (λ text. string_bytes text ≡ token_text kind header.now vectors.now token.now) }
 {
-    let len = header.len;
-    let version = header.version;
-    let mut text = format!(in heap; "length {len}\nversion {version}\nnonce ")?;
-    push_hex(&mut text, &header.nonce)?;
+    let mut text = header_text(heap, header)?;
     text.push_str("\nvectors ")?;
     push_hex(&mut text, vectors)?;
     text.push_str("\nauthenticator ")?;
@@ -84,16 +106,6 @@ fn token_text(
     push_hex(&mut text, token)?;
     text.push_str("\n")?;
     Ok(text)
-}
-
-/// An outcome that is no success.
-pub fn failed(text: Result<String, AllocError>) -> Result<Outcome, AllocError>
-    ensures { IfOk result (λ o. o.status ≡ 1) }
-{
-    Ok(Outcome {
-        text: text?,
-        status: 1,
-    })
 }
 
 fn key_text(heap: Global, kind: Kind, fault: KeyFault, len: usize) -> Result<String, AllocError> {

@@ -1,143 +1,96 @@
-//! Tokens and confirmations under the key that a file holds.
+//! Tokens and confirmations under a key, by either authenticator.
 
-ghost use Rattle.std.specs.Prelude.{◌≡◌, ◌⊎◌, length, IfOk, Ok, MatchResult};
-ghost use Rattle.refusal.specs.declared.Refusal.TheVariants.{BadImage};
-ghost use Rattle.authenticator.specs.Meaning.{padded};
-ghost use Rattle.layout.specs.Image.{IsImage};
-ghost use Rattle.planner.specs.Confirmation.{confirmation_of, Rejects};
-ghost use Rattle.planner.specs.Token.{token_of};
-ghost use Rattle.commands.specs.declared.kinds.Kind.TheVariants as kinds;
-ghost use Rattle.commands.specs.declared.tags.Fault.TheVariants.{Refused};
-ghost use Rattle.commands.specs.Key.{key_of};
-ghost use Rattle.commands.specs.Kind.{key_length};
-ghost use Rattle.commands.specs.Token.{Tells, Verifies};
+ghost use Rattle.std.specs.Prelude.{◌≡◌, ℕ, ◌/◌, ◌%◌, List, ◌∷◌, length, MatchResult, ◌≢◌};
+ghost use Rattle.authenticator.specs.Meaning.{tag, padded};
+ghost use Rattle.cmac.specs.Cmac.{cmac};
+ghost use Rattle.hmac.specs.Hmac.{hmac};
+ghost use Rattle.commands.specs.Kind.{key_length, tag_length};
+ghost use Rattle.commands.specs.Token.{token as token_of, confirmed, Checks};
 
-use crate::key::{KeyFault, read_key};
 use crate::kinds::Kind;
 use authenticator::{Authenticator, TAG_BUFFER};
 use cmac::Cmac;
 use hmac::Hmac;
+use layout::Image;
 use planner::{Request, token};
 use refusal::Refusal;
-use std::alloc::{AllocError, Global};
 
-/// Why there is no token, or why a confirmation was not taken.
-#[derive(Clone, Copy, Drop)]
-pub enum Fault {
-    /// The key file holds no key.
-    Key(KeyFault),
-    /// The call refused.
-    Refused(Refusal),
+/// An authenticator that is made of a key's bytes.
+trait Keyed: Authenticator + Drop {
+    /// The length of its keys.
+    ghost key_size: { ℕ };
+
+    /// The tag of a message under a key, as the standard defines it.
+    ghost standard: { List ℕ → List ℕ → List ℕ };
+
+    /// One under `key`. Refused where that has another length.
+    fn keyed(key: &[u8]) -> Result<Self, Refusal>
+        ensures { MatchResult result (λ a. (message : List ℕ) → tag Self.means (Self.key a) message ≡ standard key.now message) (λ _. length key.now ≢ key_size) };
 }
 
-impl From<Refusal> for Fault {
-    ghost from_gives = { λ refusal fault. fault ≡ Refused refusal };
+impl Keyed for Hmac {
+    ghost key_size = { 32 };
 
-    fn from(refusal: Refusal) -> Fault {
-        Fault::Refused(refusal)
+    ghost standard = { hmac };
+
+    fn keyed(key: &[u8]) -> Result<Hmac, Refusal> {
+        hmac::keyed(key, &mut [0; 64])
     }
 }
 
-/// The token of `image`, then zeros, under the key that `key_file` holds.
-pub fn make_token(
-    heap: Global,
-    kind: Kind,
-    key_file: &[u8],
-    image: &[u8],
-) -> Result<Result<[u8; TAG_BUFFER], Fault>, AllocError>
-    ensures { IfOk result (λ told. Tells kind (key_of (key_length kind) key_file.now) image.now told) }
-{
-    match read_key(heap, key_file, kind.key_len())? {
-        Ok(key) => Ok(keyed_token(kind, key.as_slice(), image)),
-        Err(fault) => Ok(Err(Fault::Key(fault))),
+impl Keyed for Cmac {
+    ghost key_size = { 16 };
+
+    ghost standard = { cmac };
+
+    fn keyed(key: &[u8]) -> Result<Cmac, Refusal> {
+        cmac::keyed(key)
     }
 }
 
-fn keyed_token(kind: Kind, key: &[u8], image: &[u8]) -> Result<[u8; TAG_BUFFER], Fault>
+// This and `check_confirmation` share the match over the kinds alone: what they take and answer differs.
+// That the key has the right length is asked for down to where it is tested: a file's bytes have any.
+/// The token of an image, then zeros, under a key of the right length.
+pub fn make_token(kind: Kind, key: &[u8], image: Image<'_>) -> [u8; TAG_BUFFER]
     requires { length key.now ≡ key_length kind }
-    ensures { Tells kind (Ok key.now) image.now result }
+    ensures { result ≡ padded (token_of kind key.now image.entry.bytes.now) }
 {
     match kind {
-        Kind::Hmac => hmac_token(key, image),
-        Kind::Cmac => cmac_token(key, image),
+        Kind::Hmac => token_under::<Hmac>(key, image),
+        Kind::Cmac => token_under::<Cmac>(key, image),
     }
 }
 
-fn hmac_token(key: &[u8], image: &[u8]) -> Result<[u8; TAG_BUFFER], Fault>
-    requires { length key.now ≡ 32 }
-    ensures { Tells kinds.Hmac (Ok key.now) image.now result }
+fn token_under<K: Keyed>(key: &[u8], image: Image<'_>) -> [u8; TAG_BUFFER]
+    requires { length key.now ≡ K.key_size }
+    ensures { result ≡ padded (K.standard key.now (0 ∷ image.entry.bytes.now)) }
 {
-    let mut authenticator = Hmac::new(key, &mut [0; 64])?;
-    token_by(&mut authenticator, image)
-}
-
-fn cmac_token(key: &[u8], image: &[u8]) -> Result<[u8; TAG_BUFFER], Fault>
-    requires { length key.now ≡ 16 }
-    ensures { Tells kinds.Cmac (Ok key.now) image.now result }
-{
-    let mut authenticator = Cmac::new(key)?;
-    token_by(&mut authenticator, image)
-}
-
-fn token_by<K: Authenticator>(
-    authenticator: &mut K,
-    image: &[u8],
-) -> Result<[u8; TAG_BUFFER], Fault>
-    ensures { MatchResult result (λ t. IsImage image.now × (t ≡ padded (token_of K.means (K.key authenticator.old) image.now))) (λ f. (IsImage image.now → ⊥) × (f ≡ Refused BadImage)) }
-{
+    let mut authenticator = K::keyed(key).unwrap();
     let mut out = [0; TAG_BUFFER];
-    token(authenticator, image, &mut out)?;
-    Ok(out)
+    token(&mut authenticator, image.bytes(), &mut out).unwrap();
+    out
 }
 
-/// Whether `confirmation` is the board's for a version and a nonce, under the key that `key_file` holds.
+/// Ends a request with a confirmation, under a key of the right length.
 pub fn check_confirmation(
-    heap: Global,
     kind: Kind,
-    key_file: &[u8],
-    version: u16,
-    nonce: [u8; 8],
+    key: &[u8],
+    request: Request,
     confirmation: &[u8],
-) -> Result<Result<(), Fault>, AllocError>
-    ensures { IfOk result (λ told. Verifies kind (key_of (key_length kind) key_file.now) version nonce confirmation.now told) }
-{
-    match read_key(heap, key_file, kind.key_len())? {
-        Ok(key) => Ok(keyed_check(
-            kind,
-            key.as_slice(),
-            Request::open(version, nonce),
-            confirmation,
-        )),
-        Err(fault) => Ok(Err(Fault::Key(fault))),
-    }
-}
-
-fn keyed_check(kind: Kind, key: &[u8], request: Request, confirmation: &[u8]) -> Result<(), Fault>
+) -> Result<(), Refusal>
     requires { length key.now ≡ key_length kind }
-    ensures { Verifies kind (Ok key.now) request.version request.nonce confirmation.now result }
+    ensures { Checks (tag_length kind) (confirmed kind key.now request.version request.nonce) confirmation.now result }
 {
     match kind {
-        Kind::Hmac => hmac_check(key, request, confirmation),
-        Kind::Cmac => cmac_check(key, request, confirmation),
+        Kind::Hmac => check_under::<Hmac>(key, request, confirmation),
+        Kind::Cmac => check_under::<Cmac>(key, request, confirmation),
     }
 }
 
-fn hmac_check(key: &[u8], request: Request, confirmation: &[u8]) -> Result<(), Fault>
-    requires { length key.now ≡ 32 }
-    ensures { Verifies kinds.Hmac (Ok key.now) request.version request.nonce confirmation.now result }
+fn check_under<K: Keyed>(key: &[u8], request: Request, confirmation: &[u8]) -> Result<(), Refusal>
+    requires { length key.now ≡ K.key_size }
+    ensures { Checks K.means.size (K.standard key.now (1 ∷ request.version % 256 ∷ request.version / 256 % 256 ∷ request.nonce)) confirmation.now result }
 {
-    match Hmac::new(key, &mut [0; 64]) {
-        Ok(mut authenticator) => Ok(request.verify(&mut authenticator, confirmation)?),
-        Err(_) => unreachable(),
-    }
-}
-
-fn cmac_check(key: &[u8], request: Request, confirmation: &[u8]) -> Result<(), Fault>
-    requires { length key.now ≡ 16 }
-    ensures { Verifies kinds.Cmac (Ok key.now) request.version request.nonce confirmation.now result }
-{
-    match Cmac::new(key) {
-        Ok(mut authenticator) => Ok(request.verify(&mut authenticator, confirmation)?),
-        Err(_) => unreachable(),
-    }
+    let mut authenticator = K::keyed(key).unwrap();
+    request.verify(&mut authenticator, confirmation)
 }

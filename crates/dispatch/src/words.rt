@@ -43,15 +43,10 @@ pub enum Command<'a> {
         file: &'a str,
         block: &'a str,
     },
-    /// The watch with no image running.
-    Idle {
-        file: &'a str,
-    },
-    /// The watch while an image runs.
+    /// The watch, while an image of that length runs from that block on, or none.
     Watch {
         file: &'a str,
-        block: &'a str,
-        len: &'a str,
+        running: Option<(&'a str, &'a str)>,
     },
     /// A command that there is, with other words behind it than it takes.
     Misused(&'a str),
@@ -96,14 +91,14 @@ fn parse_command<'a>(name: &'a str, kind: Kind, rest: &'a [String]) -> Command<'
             file: file.as_str(),
             block: block.as_str(),
         },
-        ("watch", Kind::Hmac, [file]) => Command::Idle {
+        ("watch", Kind::Hmac, [file]) => Command::Watch {
             file: file.as_str(),
+            running: None,
         },
         ("watch", Kind::Hmac, [file, block, len]) => {
             Command::Watch {
                 file: file.as_str(),
-                block: block.as_str(),
-                len: len.as_str(),
+                running: Some((block.as_str(), len.as_str())),
             }
         }
         ("help" | "token" | "verify" | "image" | "watch", _, _) => Command::Misused(name),

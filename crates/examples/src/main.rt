@@ -2,6 +2,7 @@
 
 #![tactic(auto)]
 
+use commands::Failure;
 use dispatch::run;
 
 const LINES: [&str; 47] = [
@@ -60,9 +61,11 @@ fn main(rt: HostRuntime) -> anyhow::Result<()> {
         for word in line.split_whitespace() {
             words.push(String::from_str(rt.alloc(), word)?)?;
         }
-        let outcome = run(&rt, words.as_slice())?;
-        let text = outcome.text;
-        let status = outcome.status;
+        let (text, status) = match run(&rt, words.as_slice()) {
+            Ok(text) => (text, 0),
+            Err(Failure::Cause(text)) => (text, 1),
+            Err(Failure::Memory(e)) => return Err(e.into()),
+        };
         println!(rt; "$ changeover {line}")?;
         print!(rt; "{text}")?;
         println!(rt; "status {status}\n")?;

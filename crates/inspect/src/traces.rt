@@ -1,20 +1,14 @@
 //! A trace of the bus, judged cycle by cycle.
 
+use commands::Failure;
 use layout::Place;
-use std::alloc::{AllocError, Global};
-use watch::{Cycle, Rule, Verdict, Watch};
+use std::alloc::Global;
+use watch::{Cycle, Watch};
 
 /// A line of a trace that is no cycle, by its number from 1.
-#[derive(Clone, Copy)]
+#[derive(Clone, Copy, PartialEq, Eq, Debug, Drop)]
 pub struct Unreadable {
     pub line: usize,
-}
-
-// What the next word of a line has to be.
-enum Awaited {
-    Mark,
-    WriteAddress,
-    DmaAddress,
 }
 
 /// A line for each cycle of `trace`: its PC, the verdict, the state after it, and the first rule that it breaks. The watch
@@ -23,7 +17,7 @@ pub fn watch_text(
     heap: Global,
     running: Option<Place>,
     trace: &str,
-) -> Result<Result<String, Unreadable>, AllocError> {
+) -> Result<String, Failure<Unreadable>> {
     let mut text = String::new(heap);
     let mut state = Watch::Reset;
     for (i, line) in trace.lines().enumerate() {
@@ -31,82 +25,38 @@ pub fn watch_text(
             continue;
         }
         let Some(cycle) = read_cycle(line) else {
-            return Ok(Err(Unreadable {
+            return Err(Failure::Cause(Unreadable {
                 line: i.saturating_add(1),
             }));
         };
         let (verdict, next) = state.step(running, cycle);
-        let told = judged(heap, cycle.pc, verdict, next, state.broken(running, cycle))?;
+        let pc = cycle.pc;
+        let told = match state.broken(running, cycle) {
+            Some(rule) => format!(in heap; "{pc} {verdict} {next} {rule}\n")?,
+            None => format!(in heap; "{pc} {verdict} {next}\n")?,
+        };
         text.push_str(told.as_str())?;
         state = next;
     }
-    Ok(Ok(text))
+    Ok(text)
 }
 
 // A cycle from its words: the PC, then `w ADDRESS`, `d ADDRESS` and `i`, as they apply.
 fn read_cycle(line: &str) -> Option<Cycle> {
     let mut words = line.split_whitespace();
-    let pc = words.next()?.parse::<u16>().ok()?;
     let mut cycle = Cycle {
-        pc,
-        writes: false,
-        write_at: 0,
-        dma: false,
-        dma_at: 0,
+        pc: words.next()?.parse::<u16>().ok()?,
+        write_at: None,
+        dma_at: None,
         interrupt: false,
     };
-    let mut awaited = Awaited::Mark;
-    for word in words {
-        awaited = match awaited {
-            Awaited::Mark => match word {
-                "w" => Awaited::WriteAddress,
-                "d" => Awaited::DmaAddress,
-                "i" => {
-                    cycle.interrupt = true;
-                    Awaited::Mark
-                }
-                _ => return None,
-            },
-            Awaited::WriteAddress => {
-                cycle.writes = true;
-                cycle.write_at = word.parse::<u16>().ok()?;
-                Awaited::Mark
-            }
-            Awaited::DmaAddress => {
-                cycle.dma = true;
-                cycle.dma_at = word.parse::<u16>().ok()?;
-                Awaited::Mark
-            }
-        };
-    }
-    match awaited {
-        Awaited::Mark => Some(cycle),
-        Awaited::WriteAddress | Awaited::DmaAddress => None,
-    }
-}
-
-fn judged(
-    heap: Global,
-    pc: u16,
-    verdict: Verdict,
-    state: Watch,
-    broken: Option<Rule>,
-) -> Result<String, AllocError> {
-    let verdict = match verdict {
-        Verdict::Pass => "pass",
-        Verdict::Reset => "reset",
-    };
-    let state = match state {
-        Watch::Outside => "outside",
-        Watch::Inside => "inside",
-        Watch::Last => "last",
-        Watch::Reset => "reset",
-    };
-    match broken {
-        Some(rule) => {
-            let number = rule.number();
-            format!(in heap; "{pc} {verdict} {state} W{number}\n")
+    while let Some(word) = words.next() {
+        match word {
+            "w" => cycle.write_at = Some(words.next()?.parse::<u16>().ok()?),
+            "d" => cycle.dma_at = Some(words.next()?.parse::<u16>().ok()?),
+            "i" => cycle.interrupt = true,
+            _ => return None,
         }
-        None => format!(in heap; "{pc} {verdict} {state}\n"),
     }
+    Some(cycle)
 }

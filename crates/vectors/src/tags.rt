@@ -4,8 +4,7 @@
 use crate::bytes::{compare, read};
 use anyhow::anyhow;
 use authenticator::Authenticator;
-use cmac::Cmac;
-use hmac::Hmac;
+use refusal::Refusal;
 
 #[derive(Clone, Copy, Drop)]
 struct Case {
@@ -77,17 +76,24 @@ const CMAC: [Case; 4] = [
 ];
 
 pub fn run(rt: &HostRuntime) -> anyhow::Result<()> {
-    for case in HMAC {
+    run_cases(rt, &HMAC, 32, |key| hmac::keyed(key, &mut [0; 64]))?;
+    run_cases(rt, &CMAC, 16, |key| cmac::keyed(key))
+}
+
+// The cases of one authenticator, each under its key, filled with zeros to the length of keys.
+fn run_cases<K: Authenticator + Drop, F: Fn(&[u8]) -> Result<K, Refusal>>(
+    rt: &HostRuntime,
+    cases: &[Case],
+    key_len: usize,
+    keyed: F,
+) -> anyhow::Result<()>
+    requires { F.IsAlwaysCallable keyed }
+{
+    for case in cases {
         let mut key = read(rt, case.key)?;
-        key.resize(32, 0)?;
-        match Hmac::new(key.as_slice(), &mut [0; 64]) {
-            Ok(mut hmac) => run_case(rt, &mut hmac, &case)?,
-            Err(_) => return Err(anyhow!("the key was refused")),
-        }
-    }
-    for case in CMAC {
-        match Cmac::new(read(rt, case.key)?.as_slice()) {
-            Ok(mut cmac) => run_case(rt, &mut cmac, &case)?,
+        key.resize(key_len, 0)?;
+        match keyed(key.as_slice()) {
+            Ok(mut authenticator) => run_case(rt, &mut authenticator, case)?,
             Err(_) => return Err(anyhow!("the key was refused")),
         }
     }
@@ -102,6 +108,7 @@ fn run_case<K: Authenticator>(
 ) -> anyhow::Result<()> {
     let message = read(rt, case.message)?;
     let (front, back) = message.as_slice().split_at(message.len() / 2);
+    // A buffer for the tag of any authenticator; its front is the tag, or as much of it as the case has.
     let mut out = [0; 32];
     authenticator.feed(front);
     authenticator.feed(back);

@@ -1,19 +1,18 @@
-use Rattle.std.proofs.Common.{subst, arith}
+use Rattle.std.proofs.Common.{Global, ap, sym, subst, ◌∙◌}
+use Rattle.authenticator.specs.Meaning.{padded}
 use Rattle.commands.specs.Key.{key_of}
-use Rattle.commands.specs.Kind.{key_length}
-use Rattle.commands.specs.Token.{Tells}
-use Rattle.commands.proofs.Reported.{reported}
+use Rattle.commands.specs.Token.{token}
+use Rattle.commands.specs.Report.{Reports, Ends}
+use Rattle.commands.proofs.Reported.{reported, unreported}
 use Rattle.commands.proofs.reports.token_report.Goals as goal
 
-pub returns-in_ok-token_text-in-Ok-Ok : goal.returns-in_ok-token_text-in-Ok-Ok
-returns-in_ok-token_text-in-Ok-Ok c =
-    let kind = c.args.kind in
-    let key = key_of (key_length kind) c.args.key_file.now in
-    let image = c.args.image.now in
-    record {
-      told =
-          reported kind key image c.in-Ok.token c.in-Ok-Ok.vectors.now _ c.in-Ok-Ok.header c.tag_len.result
-          (subst (λ r. Tells kind key image r) c.in-Ok.is c.in_ok-token.ensures)
-          c.in-Ok-Ok.ensures.1 c.in-Ok-Ok.ensures'.1 c.tag_len.ensures c.in_ok-token_text-in-Ok-Ok.ensures;
-      status = omega arith;
-    }
+pub returns-in-Err : goal.returns-in-Err
+returns-in-Err c =
+    subst (λ n. Ends c.keyless.result (Reports c.args.kind (key_of n c.args.key_file.now) c.args.image.now)) c.key_len.ensures
+    (unreported Global c.args.kind c.key_len.result c.args.key_file.now c.args.image.now c.in-Err.failure c.keyless.result c.in-Err.ensures.value c.keyless.ensures)
+
+pub returns : goal.returns
+returns c =
+    reported c.args.kind _ _ c.args.image.now c.in-Ok-read.image.bytes.now c.make_token-token.result c.vectors.result.now _ c.header.result c.tag_len.result
+    (ap (λ n. key_of n c.args.key_file.now) (sym c.key_len.ensures) ∙ c.in-Ok.ensures.value) c.in-Ok-read.ensures.0 c.in-Ok-read.ensures.1
+    (c.make_token-token.ensures ∙ ap (λ k. padded (token c.args.kind k c.in-Ok-read.image.bytes.now)) c.as_slice.ensures.value) c.header.ensures c.vectors.ensures c.tag_len.ensures c.in_ok-token_text.ensures
