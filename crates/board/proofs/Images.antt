@@ -125,7 +125,7 @@ module _ (bs : List (List ℕ)) (w : Whole bs) (f l : ℕ) (h : 512 * f + l ≤ 
         ∙ sym (fill_by_all byte (nonce_of (get_or bs f [])) 8 0 d (λ k lt. get_or-take 8 (drop 4 (get_or bs f [])) k 0 lt ∙ get_or-drop 4 (get_or bs f []) k 0))
 
     -- bytes that were read one by one are the vectors
-    pub image_vectors : (bytes : List ℕ) → length bytes ≡ 32
+    image_vectors : (bytes : List ℕ) → length bytes ≡ 32
         → ((k : ℕ) → k < 32 → get_or bytes k 0 ≡ get_or (get_or bs (f + (l - 32 + k) / 512) []) ((l - 32 + k) % 512) 0)
         → bytes ≡ vectors_of (image_at bs f l)
     image_vectors bytes many each =
@@ -135,3 +135,39 @@ module _ (bs : List (List ℕ)) (w : Whole bs) (f l : ℕ) (h : 512 * f + l ≤ 
         fill_by_all byte bytes 32 0 many (λ k lt.
         each k lt ∙ sym (ap (λ (j : ℕ). get_or (image_at bs f l) (j - 32 + k) 0) n ∙ image_byte (l - 32 + k) (omega arith)))
         ∙ sym (fill_by_all byte (vectors_of (image_at bs f l)) 32 0 c (λ k lt. get_or-drop (length (image_at bs f l) - 32) (image_at bs f l) k 0))
+
+    -- the vectors lie in one block
+    pub tail_in_one : (bytes block : List ℕ) (from n : ℕ) → from ≡ (l - 32) % 512 → n ≡ 32 → from ≤ 480 → block ≡ get_or bs (f + (l - 32) / 512) []
+        → bytes ≡ take n (drop from block) → bytes ≡ vectors_of (image_at bs f l)
+    tail_in_one bytes block from n at count few held is =
+        let size : length block ≡ 512 = ap length held ∙ w (f + (l - 32) / 512) (omega arith) in
+        let many : length bytes ≡ 32 = ap length is ∙ (length-take n (drop from block) ∙ omega (arith, length-drop from block)) in
+        image_vectors bytes many (λ k lt.
+        let block_of : (l - 32 + k) / 512 ≡ (l - 32) / 512 = omega arith in
+        let place_of : (l - 32 + k) % 512 ≡ from + k = omega arith in
+        ap (λ (xs : List ℕ). get_or xs k 0) is ∙ (get_or-take n (drop from block) k 0 (omega arith) ∙ (get_or-drop from block k 0
+        ∙ (ap (λ (xs : List ℕ). get_or xs (from + k) 0) held ∙ sym (ap₂ (λ (b j : ℕ). get_or (get_or bs (f + b) []) j 0) block_of place_of)))))
+
+    -- they lie in two blocks
+    pub tail_in_two : (front back block next : List ℕ) (from n : ℕ) → from ≡ (l - 32) % 512 → 480 < from → n ≡ from + 32 - 512
+        → block ≡ get_or bs (f + (l - 32) / 512) [] → next ≡ get_or bs (f + (l - 32) / 512 + 1) []
+        → front ≡ take (512 - from) (drop from block) → back ≡ take n next → front ++ back ≡ vectors_of (image_at bs f l)
+    tail_in_two front back block next from n at many_more count held held_next is is_back =
+        let size : length block ≡ 512 = ap length held ∙ w (f + (l - 32) / 512) (omega arith) in
+        let size_next : length next ≡ 512 = ap length held_next ∙ w (f + (l - 32) / 512 + 1) (omega arith) in
+        let long_front : length front ≡ 512 - from = ap length is ∙ (length-take (512 - from) (drop from block) ∙ omega (arith, length-drop from block)) in
+        let long_back : length back ≡ n = ap length is_back ∙ (length-take n next ∙ omega arith) in
+        let many : length (front ++ back) ≡ 32 = length-append front back ∙ omega arith in
+        image_vectors (front ++ back) many (λ k lt. elim (dec_le (512 - from) k) [
+          | no few ↦
+              let block_of : (l - 32 + k) / 512 ≡ (l - 32) / 512 = omega arith in
+              let place_of : (l - 32 + k) % 512 ≡ from + k = omega arith in
+              get_or_append_left front back 0 k (omega (arith, few)) ∙ (ap (λ (xs : List ℕ). get_or xs k 0) is ∙ (get_or-take (512 - from) (drop from block) k 0 (omega (arith, few)) ∙ (get_or-drop from block k 0
+              ∙ (ap (λ (xs : List ℕ). get_or xs (from + k) 0) held ∙ sym (ap₂ (λ (b j : ℕ). get_or (get_or bs (f + b) []) j 0) block_of place_of)))))
+          | yes enough ↦
+              let block_of : f + (l - 32 + k) / 512 ≡ f + (l - 32) / 512 + 1 = omega arith in
+              let place_of : (l - 32 + k) % 512 ≡ k - (512 - from) = omega arith in
+              get_or-append_right front back (512 - from) k 0 long_front enough ∙ (ap (λ (xs : List ℕ). get_or xs (k - (512 - from)) 0) is_back
+              ∙ (get_or-take n next (k - (512 - from)) 0 (omega arith)
+              ∙ (ap (λ (xs : List ℕ). get_or xs (k - (512 - from)) 0) held_next ∙ sym (ap₂ (λ (b j : ℕ). get_or (get_or bs b []) j 0) block_of place_of))))
+        ])

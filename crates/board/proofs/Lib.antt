@@ -9,5 +9,4 @@ mod Pointing
 mod Poking
 mod Resuming
 mod Rowed
-mod Tagged
 mod Words

@@ -1,5 +1,5 @@
 -- An image that is offered: its tests, what is kept of it, and the call.
-use Rattle.std.proofs.Common.{◌≡◌, ℕ, ◌+◌, ◌*◌, ◌≤◌, true, List, [], length, Ok, Err, Result, sym, refl, ap, ◌∙◌, subst, ap₂, inl, inr, arith}
+use Rattle.std.proofs.Common.{◌≡◌, ℕ, ◌+◌, ◌*◌, ◌≤◌, true, List, [], length, Ok, Err, sym, refl, ap, ◌∙◌, subst, ap₂, inl, inr, arith}
 use Rattle.refusal.specs.declared.Refusal.{Refusal}
 use Rattle.refusal.specs.declared.Refusal.TheVariants.{BadImage, NotNewer, WrongToken, RunningBlock}
 use Rattle.authenticator.specs.Meaning.{Meaning}
@@ -11,6 +11,7 @@ use Rattle.layout.specs.Placing.{GoesPast, Lies, Newer, Open}
 use Rattle.planner.specs.Token.{token_of}
 use Rattle.store.specs.Medium.{Medium, Whole, held}
 use Rattle.board.specs.declared.answers.Answer.TheVariants as answer
+use Rattle.board.specs.declared.results.Denied.TheVariants as denied
 use Rattle.board.specs.declared.states.Matched.{Matched}
 use Rattle.board.specs.declared.states.Running.{Running}
 use Rattle.board.specs.Answers.{cleared, settled}
@@ -18,7 +19,7 @@ use Rattle.board.specs.Calls.{Offers, Takes, IsScratch, count_of}
 use Rattle.board.specs.Results.{offered}
 use Rattle.board.specs.States.{bytes_of}
 use Rattle.board.specs.Stored.{image_at, image_in, said_at}
-use Rattle.board.specs.Weighed.{Fails, Holds, Found, admitting, weighing, tried}
+use Rattle.board.specs.Weighed.{Fails, Holds, Found, admitting, weighing}
 use Rattle.board.proofs.Images.{image_nonce, image_version}
 
 -- an image that lies in a store, in bytes
@@ -40,16 +41,13 @@ module _ (a : Meaning) (key : a.Key) (r : Running) (m : Medium) (first : ℕ) (t
   fails q (inr (fits, inr (apart, inr (new, none)))) = absurd none
 
   module _ (h : Header) (count : ℕ) (is : h ≡ header_of (held m first)) (counted : count ≡ count_of m) where
-    pub barred : (x : Result Place Refusal) (q : Refusal) → x ≡ Err q → Fails (admitting r count first h) q
-        → Found (weighing a key r m first token) first h.len x
-    barred x q at f =
-        subst (λ (y : Result Place Refusal). Found (weighing a key r m first token) first h.len y) (sym at)
-        (fails q (subst (λ (k : Header). Fails (admitting r (count_of m) first k) q) is (subst (λ (n : ℕ). Fails (admitting r n first h) q) counted f)))
+    pub barred : (q : Refusal) → Fails (admitting r count first h) q → Fails (weighing a key r m first token) q
+    barred q f =
+        fails q (subst (λ (k : Header). Fails (admitting r (count_of m) first k) q) is (subst (λ (n : ℕ). Fails (admitting r n first h) q) counted f))
 
     -- then no tag was made
-    pub untried : (begin state : a.State) (x : Result Place Refusal) (q : Refusal) → x ≡ Err q → Fails (admitting r count first h) q
-        → state ≡ tried begin x state
-    untried begin state x q at f = sym (ap (λ (y : Result Place Refusal). tried begin y state) at ∙ kept f)
+    pub untried : (begin state : a.State) (q : Refusal) → Fails (admitting r count first h) q → state ≡ settled begin (answer.Refused q) state
+    untried begin state q f = sym (kept f)
       where
         by : (p : Refusal) → q ≡ p → settled begin (answer.Refused q) state ≡ settled begin (answer.Refused p) state
         by p e = ap (λ (z : Refusal). settled begin (answer.Refused z) state) e
@@ -98,25 +96,42 @@ taken r m p h vs w lies is long read =
       vectors_are = read ∙ ap (λ (n : ℕ). vectors_of (image_at m.blocks f n)) len;
     }
 
--- an offer that matches
-pub offer_matches : (a : Meaning) (key : a.Key) (r : Running) (m : Medium) (first count : ℕ) (token scratch : List ℕ) (state state' : a.State)
-    → IsScratch scratch → count ≡ count_of m → Open count first → length token ≡ a.size → m.live ≡ true
-    → (p : Place) (len : ℕ) (b : Matched) → Found (weighing a key r m first token) first len (Ok p) → Takes r m p.first b → state' ≡ a.begin key
-    → Offers a key r m first token scratch state (offered [] (Ok b) m) (cleared scratch) state'
-offer_matches a key r m first count token scratch state state' right counted op long live p len b placed takes begun =
-    let h : Holds (weighing a key r m first token) = placed.0 in
-    let kept : Takes r m first b = subst (λ (n : ℕ). Takes r m n b) placed.1 takes in
-    record {
-      outcome = inr (
-        right,
-        inr (
-          subst (λ (n : ℕ). Open n first) counted op,
-          inr (
-            long,
-            inr (live, inr (h.0, inr (h.1.0, inr (h.1.1.0, inr (h.1.1.1.0, (b, kept, refl)))))),
-          ),
-        ),
-      );
-      scratch_left = refl;
-      state_left = begun;
-    }
+-- an offer that reads its image
+module _ (a : Meaning) (key : a.Key) (r : Running) (m : Medium) (first count : ℕ) (token scratch : List ℕ) (state state' : a.State)
+    (right : IsScratch scratch) (counted : count ≡ count_of m) (op : Open count first) (long : length token ≡ a.size) (live : m.live ≡ true) where
+  abbrev Denies : Refusal → Type 0
+  Denies q = Offers a key r m first token scratch state (offered [] (Err (denied.Refused r q)) m) (cleared scratch) state'
+
+  abbrev Kept : Refusal → Type 0
+  Kept q = state' ≡ settled (a.begin key) (answer.Refused q) state
+
+  open_there : Open (count_of m) first
+  open_there = subst (λ (n : ℕ). Open n first) counted op
+
+  -- it matches
+  pub offer_matches : (p : Place) (len : ℕ) (b : Matched) → Found (weighing a key r m first token) first len (Ok p) → Takes r m p.first b → state' ≡ a.begin key
+      → Offers a key r m first token scratch state (offered [] (Ok b) m) (cleared scratch) state'
+  offer_matches p len b placed takes begun =
+      let h : Holds (weighing a key r m first token) = placed.0 in
+      let kept : Takes r m first b = subst (λ (n : ℕ). Takes r m n b) placed.1 takes in
+      record {
+        outcome = inr (right, inr (open_there, inr (long, inr (live, inr (h.0, inr (h.1.0, inr (h.1.1.0, inr (h.1.1.1.0, (b, kept, refl)))))))));
+        scratch_left = refl;
+        state_left = begun;
+      }
+
+  -- its image or its token is refused
+  pub offer_fails : (q : Refusal) → Fails (weighing a key r m first token) q → Kept q → Denies q
+  offer_fails q (inl x) k =
+      subst Denies (sym x.1)
+      (record { outcome = inr (right, inr (open_there, inr (long, inr (live, inl (x.0, refl))))); scratch_left = refl; state_left = subst Kept x.1 k })
+  offer_fails q (inr (fits, inl x)) k =
+      subst Denies (sym x.1)
+      (record { outcome = inr (right, inr (open_there, inr (long, inr (live, inr (fits, inl (x.0, refl)))))); scratch_left = refl; state_left = subst Kept x.1 k })
+  offer_fails q (inr (fits, inr (apart, inl x))) k =
+      subst Denies (sym x.1)
+      (record { outcome = inr (right, inr (open_there, inr (long, inr (live, inr (fits, inr (apart, inl (x.0, refl))))))); scratch_left = refl; state_left = subst Kept x.1 k })
+  offer_fails q (inr (fits, inr (apart, inr (newer_than, inl x)))) k =
+      subst Denies (sym x.1)
+      (record { outcome = inr (right, inr (open_there, inr (long, inr (live, inr (fits, inr (apart, inr (newer_than, inl (x.0, refl)))))))); scratch_left = refl; state_left = subst Kept x.1 k })
+  offer_fails q (inr (fits, inr (apart, inr (_, inr (_, none))))) k = absurd none

@@ -1,5 +1,5 @@
 -- Bytes that are put into blocks.
-use Rattle.std.proofs.Common.{◌≡◌, ℕ, ◌+◌, ◌-◌, ◌/◌, ◌%◌, ◌≤◌, Bool, true, false, cond, ◌&&◌, ltb, leb, ◌⊎◌, List, [], ◌∷◌, length, get_or, set, Some, Ok, Err, Result, sym, refl, ap, ◌∙◌, subst, inl, inr, arith}
+use Rattle.std.proofs.Common.{◌≡◌, ℕ, ◌+◌, ◌-◌, ◌/◌, ◌%◌, ◌≤◌, Bool, true, false, cond, ◌&&◌, ltb, leb, ◌⊎◌, List, [], ◌∷◌, length, get_or, set, Option, None, Some, Ok, Err, Result, sym, refl, ap, ◌∙◌, subst, inl, inr, arith}
 use Rattle.layout.specs.Address.{InTcr}
 use Rattle.store.specs.Medium.{Medium, after}
 use Rattle.watch.specs.declared.cycle.Cycle.{Cycle}
@@ -25,22 +25,25 @@ inside blocks at = leb 8192 at && ltb ((at - 8192) / 512) (length blocks)
 abbrev pub poked : List (List ℕ) → ℕ → ℕ → Put
 poked blocks at byte = put ((at - 8192) / 512) (set (get_or blocks ((at - 8192) / 512) []) ((at - 8192) % 512) byte)
 
-module _ (blocks : List (List ℕ)) (at byte : ℕ) (ps : List Poke) where
-  pub no_mark : (mark : Bool) → mark ≡ false → poking blocks (poke_if mark at byte ps) ≡ poking blocks ps
-  no_mark mark e = ap (λ (b : Bool). poking blocks (poke_if b at byte ps)) e
+-- the byte, and those after it
+abbrev Ahead : List (List ℕ) → Option ℕ → ℕ → ℕ → Type 0
+Ahead blocks at byte address = (ps : List Poke)
+    → poking blocks (poke_if at byte ps) ≡ poked blocks address byte ∷ poking (set blocks ((address - 8192) / 512) (poked blocks address byte).bytes) ps
 
-  pub outside : (mark : Bool) → mark ≡ true → inside blocks at ≡ false → poking blocks (poke_if mark at byte ps) ≡ poking blocks ps
-  unfolding poking
-  outside mark e f =
-      ap (λ (b : Bool). poking blocks (poke_if b at byte ps)) e
-      ∙ ap (λ (b : Bool). cond b (poked blocks at byte ∷ poking (set blocks ((at - 8192) / 512) (poked blocks at byte).bytes) ps) (poking blocks ps)) f
+-- the byte is not put
+abbrev Nowhere : List (List ℕ) → Option ℕ → ℕ → Type 0
+Nowhere blocks at byte = (ps : List Poke) → poking blocks (poke_if at byte ps) ≡ poking blocks ps
 
-  pub within : (mark : Bool) → mark ≡ true → inside blocks at ≡ true
-      → poking blocks (poke_if mark at byte ps) ≡ poked blocks at byte ∷ poking (set blocks ((at - 8192) / 512) (poked blocks at byte).bytes) ps
+module _ (blocks : List (List ℕ)) (address byte : ℕ) where
+  pub outside : inside blocks address ≡ false → Nowhere blocks (Some address) byte
   unfolding poking
-  within mark e f =
-      ap (λ (b : Bool). poking blocks (poke_if b at byte ps)) e
-      ∙ ap (λ (b : Bool). cond b (poked blocks at byte ∷ poking (set blocks ((at - 8192) / 512) (poked blocks at byte).bytes) ps) (poking blocks ps)) f
+  outside f ps =
+      ap (λ (b : Bool). cond b (poked blocks address byte ∷ poking (set blocks ((address - 8192) / 512) (poked blocks address byte).bytes) ps) (poking blocks ps)) f
+
+  pub within : inside blocks address ≡ true → Ahead blocks (Some address) byte address
+  unfolding poking
+  within f ps =
+      ap (λ (b : Bool). cond b (poked blocks address byte ∷ poking (set blocks ((address - 8192) / 512) (poked blocks address byte).bytes) ps) (poking blocks ps)) f
 
 -- nothing more to put
 pub no_more : (blocks : List (List ℕ)) → poking blocks [] ≡ []
@@ -48,27 +51,21 @@ unfolding poking
 no_more blocks = refl
 
 -- a byte is not put, or it is the first write
-pub split : (blocks : List (List ℕ)) (mark : Bool) (at byte : ℕ)
-    → ((ps : List Poke) → poking blocks (poke_if mark at byte ps) ≡ poking blocks ps)
-    ⊎ ((ps : List Poke) → poking blocks (poke_if mark at byte ps) ≡ poked blocks at byte ∷ poking (set blocks ((at - 8192) / 512) (poked blocks at byte).bytes) ps)
-split blocks false at byte = inl (λ ps. no_mark blocks at byte ps false refl)
-split blocks true at byte = by (inside blocks at) refl
+pub split : (blocks : List (List ℕ)) (at : Option ℕ) (byte : ℕ) → Nowhere blocks at byte ⊎ ((address : ℕ) × Ahead blocks at byte address)
+split blocks None byte = inl (λ ps. refl)
+split blocks (Some address) byte = by (inside blocks address) refl
   where
-    by : (b : Bool) → inside blocks at ≡ b
-        → ((ps : List Poke) → poking blocks (poke_if true at byte ps) ≡ poking blocks ps)
-        ⊎ ((ps : List Poke) → poking blocks (poke_if true at byte ps) ≡ poked blocks at byte ∷ poking (set blocks ((at - 8192) / 512) (poked blocks at byte).bytes) ps)
-    by true e = inr (λ ps. within blocks at byte ps true refl e)
-    by false e = inl (λ ps. outside blocks at byte ps true refl e)
+    by : (b : Bool) → inside blocks address ≡ b → Nowhere blocks (Some address) byte ⊎ ((a : ℕ) × Ahead blocks (Some address) byte a)
+    by true e = inr (address, within blocks address byte e)
+    by false e = inl (outside blocks address byte e)
 
 -- at most one write puts a byte
-pub at_most_one : (blocks : List (List ℕ)) (mark : Bool) (at byte : ℕ) → length (poking blocks (poke_if mark at byte [])) ≤ 1
-at_most_one blocks mark at byte = by (split blocks mark at byte)
+pub at_most_one : (blocks : List (List ℕ)) (at : Option ℕ) (byte : ℕ) → length (poking blocks (poke_if at byte [])) ≤ 1
+at_most_one blocks at byte = by (split blocks at byte)
   where
-    by : ((ps : List Poke) → poking blocks (poke_if mark at byte ps) ≡ poking blocks ps)
-        ⊎ ((ps : List Poke) → poking blocks (poke_if mark at byte ps) ≡ poked blocks at byte ∷ poking (set blocks ((at - 8192) / 512) (poked blocks at byte).bytes) ps)
-        → length (poking blocks (poke_if mark at byte [])) ≤ 1
+    by : Nowhere blocks at byte ⊎ ((a : ℕ) × Ahead blocks at byte a) → length (poking blocks (poke_if at byte [])) ≤ 1
     by (inl f) = rw (f [], no_more blocks) (omega arith)
-    by (inr f) = rw (f [], no_more (set blocks ((at - 8192) / 512) (poked blocks at byte).bytes)) (omega arith)
+    by (inr (a, f)) = rw (f [], no_more (set blocks ((a - 8192) / 512) (poked blocks a byte).bytes)) (omega arith)
 
 -- a live store reads
 live_row : (n : ℕ) (plan : List Put) (m : Medium) (r : Result Unit Supply) (e : Medium) → m.live ≡ true → ReadRow n plan m r e → Row n plan m r e
@@ -84,73 +81,71 @@ after_one p plan m d r e (inr (live, inl q)) next = absurd (differ tt q.0 q.1)
 after_one p plan m d r e (inr (live, inr q)) next =
     inr (live, inr (q.0, live_row 2 plan (after m p.block p.bytes true) r e refl (subst (λ (x : Medium). ReadRow 2 plan x r e) q.1.1 (next q.1.1))))
 
--- what came of a byte: by its mark, and by its address among n blocks
-module _ (write : ℕ) (m : Medium) (mark : Bool) (at byte : ℕ) where
+-- what came of a byte: by its address among n blocks
+module _ (write : ℕ) (m : Medium) (at : Option ℕ) (byte : ℕ) where
   abbrev plan : List Put
-  plan = poking m.blocks (poke_if mark at byte [])
-
-  within_blocks : (b : Bool) (n : ℕ) → b ≡ leb 8192 at && ltb ((at - 8192) / 512) n → n ≡ length m.blocks → inside m.blocks at ≡ b
-  within_blocks b n e is = sym (e ∙ ap (λ (k : ℕ). leb 8192 at && ltb ((at - 8192) / 512) k) is)
+  plan = poking m.blocks (poke_if at byte [])
 
   none : plan ≡ [] → Poked write plan m (Ok write) m
   none e = subst (λ (q : List Put). Poked write q m (Ok write) m) (sym e) (omega arith, (refl, refl))
 
-  pub unmarked : mark ≡ false → Poked write plan m (Ok write) m
-  unmarked e = none (no_mark m.blocks at byte [] mark e ∙ no_more m.blocks)
+  pub no_address : at ≡ None → Poked write plan m (Ok write) m
+  no_address e = none (ap (λ (o : Option ℕ). poking m.blocks (poke_if o byte [])) e ∙ no_more m.blocks)
 
-  pub out_of_store : (n : ℕ) → mark ≡ true → false ≡ leb 8192 at && ltb ((at - 8192) / 512) n → n ≡ length m.blocks → Poked write plan m (Ok write) m
-  out_of_store n e f is = none (outside m.blocks at byte [] mark e (within_blocks false n f is) ∙ no_more m.blocks)
+  module _ (n address : ℕ) (e : at ≡ Some address) (b : Bool) (f : b ≡ leb 8192 address && ltb ((address - 8192) / 512) n) (is : n ≡ length m.blocks) where
+    within_blocks : inside m.blocks address ≡ b
+    within_blocks = sym (f ∙ ap (λ (k : ℕ). leb 8192 address && ltb ((address - 8192) / 512) k) is)
 
-  module _ (n : ℕ) (e : mark ≡ true) (f : true ≡ leb 8192 at && ltb ((at - 8192) / 512) n) (is : n ≡ length m.blocks) where
-    one : plan ≡ poked m.blocks at byte ∷ []
-    one =
-        within m.blocks at byte [] mark e (within_blocks true n f is)
-        ∙ ap (λ (x : List Put). poked m.blocks at byte ∷ x) (no_more (set m.blocks ((at - 8192) / 512) (poked m.blocks at byte).bytes))
+    pub out_of_store : b ≡ false → Poked write plan m (Ok write) m
+    out_of_store g =
+        none (ap (λ (o : Option ℕ). poking m.blocks (poke_if o byte [])) e ∙ (outside m.blocks address byte (within_blocks ∙ g) [] ∙ no_more m.blocks))
 
-    pub put_done : (d : Medium) → ReadRow write (poked m.blocks at byte ∷ []) m (Ok tt) d → Poked write plan m (Ok (write + 1)) d
-    put_done d row = subst (λ (q : List Put). Poked write q m (Ok (write + 1)) d) (sym one) (refl, row)
+    module _ (g : b ≡ true) where
+      one : plan ≡ poked m.blocks address byte ∷ []
+      one =
+          ap (λ (o : Option ℕ). poking m.blocks (poke_if o byte [])) e ∙ (within m.blocks address byte (within_blocks ∙ g) []
+          ∙ ap (λ (x : List Put). poked m.blocks address byte ∷ x) (no_more (set m.blocks ((address - 8192) / 512) (poked m.blocks address byte).bytes)))
 
-    pub put_cut : (s : Supply) (d : Medium) → ReadRow write (poked m.blocks at byte ∷ []) m (Err s) d → Poked write plan m (Err s) d
-    put_cut s d row = subst (λ (q : List Put). Poked write q m (Err s) d) (sym one) row
+      pub put_done : (d : Medium) → ReadRow write (poked m.blocks address byte ∷ []) m (Ok tt) d → Poked write plan m (Ok (write + 1)) d
+      put_done d row = subst (λ (q : List Put). Poked write q m (Ok (write + 1)) d) (sym one) (refl, row)
+
+      pub put_cut : (s : Supply) (d : Medium) → ReadRow write (poked m.blocks address byte ∷ []) m (Err s) d → Poked write plan m (Err s) d
+      put_cut s d row = subst (λ (q : List Put). Poked write q m (Err s) d) (sym one) row
 
 -- a byte, and then another one
-module _ (m : Medium) (mark : Bool) (at byte : ℕ) (rest : List Poke) where
-  pub both : (d : Medium) (k : ℕ) (r : Result Unit Supply) (e : Medium) → Poked 1 (poking m.blocks (poke_if mark at byte [])) m (Ok k) d
-      → ReadRow k (poking d.blocks rest) d r e → ReadRow 1 (poking m.blocks (poke_if mark at byte rest)) m r e
-  both d k r e p next = by (split m.blocks mark at byte)
+module _ (m : Medium) (at : Option ℕ) (byte : ℕ) (rest : List Poke) where
+  pub both : (d : Medium) (k : ℕ) (r : Result Unit Supply) (e : Medium) → Poked 1 (poking m.blocks (poke_if at byte [])) m (Ok k) d
+      → ReadRow k (poking d.blocks rest) d r e → ReadRow 1 (poking m.blocks (poke_if at byte rest)) m r e
+  both d k r e p next = by (split m.blocks at byte)
     where
-      by : ((ps : List Poke) → poking m.blocks (poke_if mark at byte ps) ≡ poking m.blocks ps)
-          ⊎ ((ps : List Poke) → poking m.blocks (poke_if mark at byte ps) ≡ poked m.blocks at byte ∷ poking (set m.blocks ((at - 8192) / 512) (poked m.blocks at byte).bytes) ps)
-          → ReadRow 1 (poking m.blocks (poke_if mark at byte rest)) m r e
+      by : Nowhere m.blocks at byte ⊎ ((a : ℕ) × Ahead m.blocks at byte a) → ReadRow 1 (poking m.blocks (poke_if at byte rest)) m r e
       by (inl f) =
-          let none : poking m.blocks (poke_if mark at byte []) ≡ [] = f [] ∙ no_more m.blocks in
+          let none : poking m.blocks (poke_if at byte []) ≡ [] = f [] ∙ no_more m.blocks in
           let q : Poked 1 [] m (Ok k) d = subst (λ (x : List Put). Poked 1 x m (Ok k) d) none p in
           let one : k ≡ 1 = q.0 in
           subst (λ (x : List Put). ReadRow 1 x m r e) (sym (f rest))
           (subst (λ (x : Medium). ReadRow 1 (poking x.blocks rest) x r e) q.1.1 (subst (λ (i : ℕ). ReadRow i (poking d.blocks rest) d r e) one next))
-      by (inr f) =
-          let w : Put = poked m.blocks at byte in
-          let single : poking m.blocks (poke_if mark at byte []) ≡ w ∷ [] = f [] ∙ ap (λ (x : List Put). w ∷ x) (no_more (set m.blocks w.block w.bytes)) in
+      by (inr (a, f)) =
+          let w : Put = poked m.blocks a byte in
+          let single : poking m.blocks (poke_if at byte []) ≡ w ∷ [] = f [] ∙ ap (λ (x : List Put). w ∷ x) (no_more (set m.blocks w.block w.bytes)) in
           let q : Poked 1 (w ∷ []) m (Ok k) d = subst (λ (x : List Put). Poked 1 x m (Ok k) d) single p in
           let two : k ≡ 2 = q.0 in
           subst (λ (x : List Put). ReadRow 1 x m r e) (sym (f rest))
           (after_one w (poking (set m.blocks w.block w.bytes) rest) m d r e q.1
           (λ is. subst (λ (x : List (List ℕ)). ReadRow 2 (poking x rest) d r e) (ap (λ (x : Medium). x.blocks) is) (subst (λ (i : ℕ). ReadRow i (poking d.blocks rest) d r e) two next)))
 
-  pub first_cut : (s : Supply) (e : Medium) → Poked 1 (poking m.blocks (poke_if mark at byte [])) m (Err s) e
-      → ReadRow 1 (poking m.blocks (poke_if mark at byte rest)) m (Err s) e
-  first_cut s e p = by (split m.blocks mark at byte)
+  pub first_cut : (s : Supply) (e : Medium) → Poked 1 (poking m.blocks (poke_if at byte [])) m (Err s) e
+      → ReadRow 1 (poking m.blocks (poke_if at byte rest)) m (Err s) e
+  first_cut s e p = by (split m.blocks at byte)
     where
-      by : ((ps : List Poke) → poking m.blocks (poke_if mark at byte ps) ≡ poking m.blocks ps)
-          ⊎ ((ps : List Poke) → poking m.blocks (poke_if mark at byte ps) ≡ poked m.blocks at byte ∷ poking (set m.blocks ((at - 8192) / 512) (poked m.blocks at byte).bytes) ps)
-          → ReadRow 1 (poking m.blocks (poke_if mark at byte rest)) m (Err s) e
+      by : Nowhere m.blocks at byte ⊎ ((a : ℕ) × Ahead m.blocks at byte a) → ReadRow 1 (poking m.blocks (poke_if at byte rest)) m (Err s) e
       by (inl f) =
           let q : ReadRow 1 [] m (Err s) e = subst (λ (x : List Put). ReadRow 1 x m (Err s) e) (f [] ∙ no_more m.blocks) p in
           absurd (differ tt s (sym q.0))
-      by (inr f) =
-          let w : Put = poked m.blocks at byte in
+      by (inr (a, f)) =
+          let w : Put = poked m.blocks a byte in
           let more : List Put = poking (set m.blocks w.block w.bytes) rest in
-          let single : poking m.blocks (poke_if mark at byte []) ≡ w ∷ [] = f [] ∙ ap (λ (x : List Put). w ∷ x) (no_more (set m.blocks w.block w.bytes)) in
+          let single : poking m.blocks (poke_if at byte []) ≡ w ∷ [] = f [] ∙ ap (λ (x : List Put). w ∷ x) (no_more (set m.blocks w.block w.bytes)) in
           subst (λ (x : List Put). ReadRow 1 x m (Err s) e) (sym (f rest)) (still w more (subst (λ (x : List Put). ReadRow 1 x m (Err s) e) single p))
         where
           still : (w : Put) (more : List Put) → ReadRow 1 (w ∷ []) m (Err s) e → ReadRow 1 (w ∷ more) m (Err s) e
@@ -175,8 +170,8 @@ pokes_cut (q ∷ plan) m board s e (inr p) =
     let w = not_done (q ∷ plan) m answer.Passes board e s p.1 in (w.0, inr (p.0, w.1))
 
 -- the number of a second write
-pub at_most_two : (m : Medium) (mark : Bool) (at byte k : ℕ) → k ≡ 1 + length (poking m.blocks (poke_if mark at byte [])) → k ≤ 2
-at_most_two m mark at byte k e = omega (arith, at_most_one m.blocks mark at byte)
+pub at_most_two : (m : Medium) (at : Option ℕ) (byte k : ℕ) → k ≡ 1 + length (poking m.blocks (poke_if at byte [])) → k ≤ 2
+at_most_two m at byte k e = omega (arith, at_most_one m.blocks at byte)
 
 -- a cycle, from its verdict and its bytes
 module _ (r : Running) (m : Medium) (c : Cycle) (byte dma_byte : ℕ) (scratch : List ℕ) (right : IsScratch scratch) (out : InTcr c.pc → ⊥) where

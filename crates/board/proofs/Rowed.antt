@@ -3,8 +3,7 @@ use Rattle.std.proofs.Common.{◌≡◌, ℕ, suc, ◌+◌, true, List, [], ◌�
 use Rattle.store.specs.Medium.{Medium, after}
 use Rattle.board.specs.declared.answers.Supply.{Supply}
 use Rattle.board.specs.Rows.{Row}
-use Rattle.control.specs.Blocks.{formed}
-use Rattle.board.specs.Writes.{Put, put}
+use Rattle.board.specs.Writes.{Put}
 
 pub differ : {A E : Type 0} (u : A) (x : E) → ◌≡◌ {A = Result A E} (Ok u) (Err x) → ⊥
 differ u x h = let z : ◌≡◌ {A = ℕ} 0 1 = cc in omega arith
@@ -23,8 +22,3 @@ pub stopped : (ps qs : List Put) (n : ℕ) (m : Medium) (s : Supply) (e : Medium
 stopped [] qs n m s e p = absurd (differ tt s (sym p.0))
 stopped (a ∷ ps) qs n m s e (inl p) = inl p
 stopped (a ∷ ps) qs n m s e (inr p) = inr (p.0, stopped ps qs (suc n) (after m a.block a.bytes true) s e p.1)
-
--- a vectors block, by the vectors' bytes
-pub vectors_row : (n : ℕ) (xs ys : List ℕ) (m : Medium) (r : Result Unit Supply) (e : Medium) → xs ≡ ys
-    → Row n (put 1 (formed xs) ∷ []) m r e → Row n (put 1 (formed ys) ∷ []) m r e
-vectors_row n xs ys m r e same p = subst (λ (zs : List ℕ). Row n (put 1 (formed zs) ∷ []) m r e) same p

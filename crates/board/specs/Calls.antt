@@ -1,6 +1,6 @@
 -- What each call means. A call reads top to bottom as its rule does: the tests in their order, what it reads, the writes
 -- that it makes, and what it answers.
-use Rattle.std.specs.Prelude.{◌≡◌, ℕ, suc, ◌-◌, ◌/◌, ◌%◌, ◌≤◌, Bool, cond, ◌&&◌, ◌⊎◌, List, [], ◌∷◌, ◌++◌, length, set, Some, nat_le, nat_lt, slice_index_or, slice_set}
+use Rattle.std.specs.Prelude.{◌≡◌, ℕ, suc, ◌-◌, ◌/◌, ◌%◌, ◌≤◌, cond, ◌&&◌, ◌⊎◌, List, [], ◌∷◌, ◌++◌, length, set, Option, None, Some, nat_le, nat_lt, slice_index_or, slice_set}
 use Rattle.refusal.specs.declared.Refusal.TheVariants.{StoreSize, WrongLength, BadImage, NotNewer, TagLength, WrongToken, BlockRange, RunningBlock, CorePc}
 use Rattle.authenticator.specs.Meaning.{Meaning}
 use Rattle.layout.specs.Address.{InTcr, blocks_of}
@@ -147,12 +147,13 @@ pub record Poke : Type 0 where
   pub address : ℕ
   pub byte : ℕ
 
-abbrev pub poke_if : Bool → ℕ → ℕ → List Poke → List Poke
-poke_if mark address byte pokes = cond mark (record { address = address; byte = byte } ∷ pokes) pokes
+abbrev pub poke_if : Option ℕ → ℕ → List Poke → List Poke
+poke_if None byte pokes = pokes
+poke_if (Some address) byte pokes = record { address = address; byte = byte } ∷ pokes
 
 -- The core's byte, then the one of DMA.
 abbrev pub pokes_of : Cycle → ℕ → ℕ → List Poke
-pokes_of c byte dma_byte = poke_if c.writes c.write_at byte (poke_if c.dma c.dma_at dma_byte [])
+pokes_of c byte dma_byte = poke_if c.write_at byte (poke_if c.dma_at dma_byte [])
 
 -- The writes by which bytes come into their blocks, each over what those ahead of it left. An address outside the
 -- blocks changes nothing.

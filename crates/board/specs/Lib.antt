@@ -11,3 +11,4 @@ pub mod Resumed
 pub mod Loading
 pub mod Poked
 pub mod Weighed
+pub mod Planned

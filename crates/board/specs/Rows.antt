@@ -1,15 +1,9 @@
 -- Writes in a row, as code makes them: each one by its number.
 use Rattle.std.specs.Prelude.{◌≡◌, ℕ, suc, true, ◌⊎◌, List, [], ◌∷◌, Ok, Err, Result}
-use Rattle.store.specs.declared.fault.Fault.{Fault}
 use Rattle.store.specs.Calls.{Writing}
 use Rattle.store.specs.Medium.{Medium, after}
 use Rattle.board.specs.declared.answers.Supply.{Supply}
 use Rattle.board.specs.Writes.{Put}
-
--- The store's answer, with the number of the write.
-abbrev pub Numbered : ℕ → Result Unit Fault → Result Unit (ℕ × Fault) → Type 0
-Numbered n (Ok u) r = r ≡ Ok u
-Numbered n (Err f) r = r ≡ Err (n, f)
 
 -- The planned writes from number n on, one after the other: the store does not do one, or does it, and the others follow.
 abbrev pub Row : ℕ → List Put → Medium → Result Unit Supply → Medium → Type 0

@@ -45,6 +45,6 @@ weighing a key r m first token =
     (test (token ≡ token_of a key (image_in m.blocks first)) WrongToken pass)))
 
 -- The authenticator's state after them.
-abbrev pub tried : {State : Type 0} → State → Result Place Refusal → State → State
+abbrev pub tried : {State Found : Type 0} → State → Result Found Refusal → State → State
 tried begin (Ok _) state = begin
 tried begin (Err refusal) state = settled begin (answer.Refused refusal) state

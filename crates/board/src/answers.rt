@@ -1,5 +1,9 @@
 //! What calls answer.
 
+ghost use Rattle.std.specs.Prelude.{◌≡◌};
+ghost use Rattle.board.specs.States.{launch_of};
+
+use layout::Place;
 use refusal::Refusal;
 use store::Fault;
 
@@ -14,13 +18,35 @@ pub struct Launch {
     pub entry: u16,
 }
 
+impl From<Place> for Launch {
+    ghost from_gives = { λ place launch. launch ≡ launch_of place };
+
+    fn from(place: Place) -> Launch {
+        Launch {
+            min: place.min(),
+            max: place.max(),
+            entry: place.entry(),
+        }
+    }
+}
+
 /// The values of refusal 10: the store below did not read or write.
 #[derive(Clone, Copy, PartialEq, Eq, Debug)]
 pub struct Supply {
     /// Which of the call's writes it was, from 1; 0 for a read.
+    // A number and no option, as the answer is printed.
     pub write: u8,
     /// What the store answered.
     pub fault: Fault,
+}
+
+impl From<(u8, Fault)> for Supply {
+    ghost from_gives = { λ p r. (r.write ≡ p.0) × (r.fault ≡ p.1) };
+
+    fn from(p: (u8, Fault)) -> Supply {
+        let (write, fault) = p;
+        Supply { write, fault }
+    }
 }
 
 /// What a call answered.

@@ -8,7 +8,8 @@ use layout::ADDRESSED;
 // The number of blocks of the smallest store.
 const LEAST_COUNT: usize = 8;
 
-/// Zeros a lent buffer. Every call ends its use of one here.
+/// Zeros a lent buffer: ahead of its use, or where a call ends.
+// By a line and no guard: a guard needs a type with a `drop`, and in each call the same function more that it has now.
 pub(crate) fn clear(buffer: &mut [u8])
     ensures { buffer.new ≡ cleared buffer.old }
 {
@@ -19,5 +20,5 @@ pub(crate) fn clear(buffer: &mut [u8])
 pub(crate) fn is_store(count: usize) -> bool
     ensures { Decides result ((8 ≤ count) × (count ≤ 112)) }
 {
-    LEAST_COUNT <= count && count <= ADDRESSED
+    (LEAST_COUNT..=ADDRESSED).contains(&count)
 }

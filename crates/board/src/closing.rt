@@ -1,66 +1,87 @@
-//! Control blocks are formed in the scratch buffer and written.
+//! The control blocks that a call writes.
 
-ghost use Rattle.std.specs.Prelude.{◌≡◌, ◌≤◌, [], ◌∷◌, length};
-ghost use Rattle.control.specs.Blocks.{formed, pointer_to, flag_block, block_of};
+ghost use Rattle.std.specs.Prelude.{◌≡◌, ◌+◌, ◌≤◌, [], ◌∷◌, length};
+ghost use Rattle.control.specs.Calls.{Forms};
 ghost use Rattle.board.specs.Calls.{closing};
+ghost use Rattle.board.specs.Planned.{planned, plans};
 ghost use Rattle.board.specs.Rows.{Row};
 ghost use Rattle.board.specs.States.{bytes_of};
-ghost use Rattle.board.specs.Writes.{put as plan};
 
 use crate::answers::Supply;
 use crate::vectors::bytes_of;
 use crate::writes::put;
 use control::{Control, Flag, form_flag, form_pointer, form_vectors};
-use layout::Place;
+use layout::{BLOCK, Place, VECTORS_LEN};
+use refusal::Refusal;
 use store::Store;
 
-/// Write number `write` is the pointer to the image at `place`, into `block`.
-pub(crate) fn put_pointer<S: Store>(
-    store: &mut S,
-    write: u8,
-    block: Control,
-    place: Place,
-    scratch: &mut [u8],
-) -> Result<(), Supply>
-    requires { length scratch.old ≡ 512 }
-    ensures { Row write (plan (block_of block) (pointer_to place.first place.len) ∷ []) (S.medium store.old) result (S.medium store.new) }
-{
-    match form_pointer(place, scratch) {
-        Ok(()) => put(store, write, block.block(), scratch),
-        Err(_) => unreachable(),
+// The cases of `Control`, each with what it holds.
+/// A control block, with what it is to hold.
+#[derive(Clone, Copy)]
+pub(crate) enum Content {
+    /// EP of the image at a place.
+    Pointer(Place),
+    /// IVTR.
+    Vectors([u8; VECTORS_LEN]),
+    Flag(Flag),
+    /// bEP of the image at a place.
+    BufferPointer(Place),
+}
+
+impl Content {
+    // Which block it is.
+    fn block(self) -> usize
+        ensures { result ≡ (planned self).block }
+    {
+        match self {
+            Content::Pointer(_) => Control::Pointer.block(),
+            Content::Vectors(_) => Control::Vectors.block(),
+            Content::Flag(_) => Control::Flag.block(),
+            Content::BufferPointer(_) => Control::BufferPointer.block(),
+        }
+    }
+
+    // Forms the block in the scratch buffer.
+    fn form(self, scratch: &mut [u8; BLOCK]) -> Result<(), Refusal>
+        ensures { Forms scratch.old (planned self).bytes result scratch.new }
+    {
+        match self {
+            Content::Pointer(place) => form_pointer(place, scratch),
+            Content::Vectors(vectors) => form_vectors(&vectors, scratch),
+            Content::Flag(flag) => form_flag(flag, scratch),
+            Content::BufferPointer(place) => form_pointer(place, scratch),
+        }
     }
 }
 
-/// Write number `write` is the block of an image's vectors.
-pub(crate) fn put_vectors<S: Store>(
+// Write number `write` is a control block.
+// Store and scratch buffer are lent one by one, as the callers have them.
+fn put_content<S: Store>(
     store: &mut S,
     write: u8,
-    vectors: &[u8],
-    scratch: &mut [u8],
+    content: Content,
+    scratch: &mut [u8; BLOCK],
 ) -> Result<(), Supply>
-    requires { (length scratch.old ≡ 512) × (length vectors.now ≡ 32) }
-    ensures { Row write (plan 1 (formed vectors.now) ∷ []) (S.medium store.old) result (S.medium store.new) }
+    ensures { Row write (planned content ∷ []) (S.medium store.old) result (S.medium store.new) }
 {
-    match form_vectors(vectors, scratch) {
-        Ok(()) => put(store, write, Control::Vectors.block(), scratch),
-        Err(_) => unreachable(),
-    }
+    content.form(scratch).unwrap();
+    put(store, write, content.block(), scratch)
 }
 
-/// Write number `write` is the flag block.
-pub(crate) fn put_flag<S: Store>(
+/// Writes control blocks one after the other, from number `write` on.
+pub(crate) fn put_all<S: Store>(
     store: &mut S,
     write: u8,
-    flag: Flag,
-    scratch: &mut [u8],
+    contents: &[Content],
+    scratch: &mut [u8; BLOCK],
 ) -> Result<(), Supply>
-    requires { length scratch.old ≡ 512 }
-    ensures { Row write (plan 2 (flag_block flag) ∷ []) (S.medium store.old) result (S.medium store.new) }
+    requires { write + length contents.now ≤ 255 }
+    ensures { Row write (plans contents.now) (S.medium store.old) result (S.medium store.new) }
 {
-    match form_flag(flag, scratch) {
-        Ok(()) => put(store, write, Control::Flag.block(), scratch),
-        Err(_) => unreachable(),
+    for (i, content) in contents.iter().enumerate() {
+        put_content(store, write + i as u8, *content, scratch)?;
     }
+    Ok(())
 }
 
 /// The writes that end an install, from number `write` on.
@@ -69,13 +90,15 @@ pub(crate) fn close<S: Store>(
     write: u8,
     place: Place,
     vectors: [u64; 4],
-    scratch: &mut [u8],
+    scratch: &mut [u8; BLOCK],
 ) -> Result<(), Supply>
-    requires { (length scratch.old ≡ 512) × (write ≤ 3) }
+    requires { write ≤ 3 }
     ensures { Row write (closing place.first place.len (bytes_of vectors)) (S.medium store.old) result (S.medium store.new) }
 {
-    let bytes = bytes_of(vectors);
-    put_pointer(store, write, Control::Pointer, place, scratch)?;
-    put_vectors(store, write + 1, &bytes, scratch)?;
-    put_flag(store, write + 2, Flag::Finished, scratch)
+    let contents = [
+        Content::Pointer(place),
+        Content::Vectors(bytes_of(vectors)),
+        Content::Flag(Flag::Finished),
+    ];
+    put_all(store, write, &contents, scratch)
 }

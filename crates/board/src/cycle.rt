@@ -17,6 +17,7 @@ use store::Store;
 use watch::{Cycle, Verdict, Watch};
 
 impl Running {
+    // Lent one by one, as the caller has them; cleared by a line at the end of the call (see `clear`).
     /// Judges a cycle outside the core's own region. `byte` is what the core writes, `dma_byte` what DMA does.
     pub fn cycle<S: Store>(
         self,
@@ -28,24 +29,23 @@ impl Running {
     ) -> Result<Cycled, Denied<Running>>
         ensures { (ws : List Write) × Cycles self (S.medium store.old) cycle byte dma_byte scratch.old (cycled ws result (S.medium store.new)) scratch.new }
     {
-        if scratch.len() != BLOCK {
+        let Some(scratch) = scratch.as_mut_array() else {
             return Err(Denied::Refused(self, Refusal::WrongLength));
-        }
+        };
         let answer = self.judge(store, cycle, byte, dma_byte, scratch);
         clear(scratch);
         answer
     }
 
-    // The cycle with a scratch buffer of the right length, but for that buffer's end.
+    // The cycle, but for the scratch buffer's end.
     fn judge<S: Store>(
         self,
         store: &mut S,
         cycle: Cycle,
         byte: u8,
         dma_byte: u8,
-        scratch: &mut [u8],
+        scratch: &mut [u8; BLOCK],
     ) -> Result<Cycled, Denied<Running>>
-        requires { length scratch.old ≡ 512 }
         ensures { (ws : List Write) × Cycles self (S.medium store.old) cycle byte dma_byte scratch.old (cycled ws result (S.medium store.new)) (cleared scratch.old) }
     {
         if in_tcr(cycle.pc) {
@@ -67,8 +67,5 @@ fn is_reset(place: Place, cycle: Cycle) -> bool
     ensures { Decides result (W1 (Runs place) cycle ⊎ W2 (Runs place) cycle) }
 {
     let (verdict, _) = Watch::Outside.step(Some(place), cycle);
-    match verdict {
-        Verdict::Pass => false,
-        Verdict::Reset => true,
-    }
+    matches!(verdict, Verdict::Reset)
 }

@@ -11,17 +11,18 @@ ghost use Rattle.board.specs.Writes.{Write};
 
 use crate::answers::Supply;
 use crate::buffers::clear;
-use crate::closing::{close, put_flag, put_pointer};
-use crate::confirm::{confirm, launch};
+use crate::closing::{Content, close, put_all};
+use crate::confirm::confirm;
 use crate::results::{Denied, Installed};
 use crate::states::{Cold, Matched, Running};
 use authenticator::{Authenticator, TAG_BUFFER};
-use control::{Control, Flag};
+use control::Flag;
 use layout::{BLOCK, Place};
 use refusal::Refusal;
 use store::Store;
 
 impl Matched {
+    // Lent one by one, as the caller has them; cleared by a line at the end of the call (see `clear`).
     /// Installs the image whose token matched, and confirms it in the register.
     pub fn install<S: Store, K: Authenticator>(
         self,
@@ -33,9 +34,12 @@ impl Matched {
         ensures key { K.Authenticator.key authenticator.new ≡ K.Authenticator.key authenticator.old }
         ensures call { (ws : List Write) × Installs K.Authenticator.means (K.Authenticator.key authenticator.old) self (S.Store.medium store.old) scratch.old register.old (K.Authenticator.state authenticator.old) (installed ws result (S.Store.medium store.new)) scratch.new register.new (K.Authenticator.state authenticator.new) }
     {
-        if scratch.len() != BLOCK || register.len() != TAG_BUFFER {
+        let Some(scratch) = scratch.as_mut_array() else {
             return Err(Denied::Refused(self, Refusal::WrongLength));
-        }
+        };
+        let Some(register) = register.as_mut_array() else {
+            return Err(Denied::Refused(self, Refusal::WrongLength));
+        };
         clear(register);
         let written = write_install(store, self.place, self.vectors, scratch);
         clear(scratch);
@@ -46,8 +50,11 @@ impl Matched {
     }
 
     // The image that was offered runs, and is confirmed.
-    fn succeed<K: Authenticator>(self, authenticator: &mut K, register: &mut [u8]) -> Installed
-        requires { length register.old ≡ 32 }
+    fn succeed<K: Authenticator>(
+        self,
+        authenticator: &mut K,
+        register: &mut [u8; TAG_BUFFER],
+    ) -> Installed
         ensures key { K.key authenticator.new ≡ K.key authenticator.old }
         ensures state { K.state authenticator.new ≡ K.means.begin (K.key authenticator.old) }
         ensures register { register.new ≡ padded (confirmation_of K.means (K.key authenticator.old) self.version self.nonce) }
@@ -59,7 +66,7 @@ impl Matched {
         let Cold {} = self.leave().end();
         Installed {
             running: Running { place, version },
-            launch: launch(place),
+            launch: place.into(),
         }
     }
 }
@@ -69,12 +76,14 @@ fn write_install<S: Store>(
     store: &mut S,
     place: Place,
     vectors: [u64; 4],
-    scratch: &mut [u8],
+    scratch: &mut [u8; BLOCK],
 ) -> Result<(), Supply>
-    requires { length scratch.old ≡ 512 }
     ensures { Row 1 (installing place.first place.len (bytes_of vectors)) (S.medium store.old) result (S.medium store.new) }
 {
-    put_pointer(store, 1, Control::BufferPointer, place, scratch)?;
-    put_flag(store, 2, Flag::Unfinished, scratch)?;
+    let contents = [
+        Content::BufferPointer(place),
+        Content::Flag(Flag::Unfinished),
+    ];
+    put_all(store, 1, &contents, scratch)?;
     close(store, 3, place, vectors, scratch)
 }

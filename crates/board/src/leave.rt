@@ -11,13 +11,13 @@ impl Matched {
         ensures { Leaves self result }
     {
         let Matched {
-            running,
+            running: kept,
             place: _,
             version: _,
             nonce: _,
             vectors: _,
         } = self;
-        running
+        kept
     }
 }
 
@@ -33,7 +33,7 @@ impl Running {
 }
 
 impl Board {
-    /// Ends whatever the board did.
+    /// Ends whatever the board did. There is but one cold board, so that no clause is needed.
     pub fn reset(self) -> Cold {
         match self {
             Board::Cold(cold) => cold,

@@ -1,31 +1,27 @@
 //! Offer: an image with its token.
 
-ghost use Rattle.std.specs.Prelude.{◌≡◌, ◌≤◌, List, [], length};
+ghost use Rattle.std.specs.Prelude.{◌≡◌, ◌≤◌, List, [], length, Ok, MatchResult};
 ghost use Rattle.layout.specs.Header.{header_of};
-ghost use Rattle.layout.specs.Placing.{Lies, Open};
+ghost use Rattle.layout.specs.Placing.{Open};
 ghost use Rattle.store.specs.Medium.{held};
 ghost use Rattle.board.specs.Answers.{cleared};
 ghost use Rattle.board.specs.Calls.{Offers, Takes};
-ghost use Rattle.board.specs.Readable.{Readable};
 ghost use Rattle.board.specs.Results.{offered};
-ghost use Rattle.board.specs.Weighed.{Found, admitting, weighing, tried};
+ghost use Rattle.board.specs.Weighed.{Fails, Found, admitting, weighing, tried};
 ghost use Rattle.board.specs.Writes.{Write};
 
-use crate::answers::Supply;
 use crate::buffers::clear;
-use crate::reading::{header, vectors};
+use crate::reading::{Reader, Stored, header};
 use crate::results::Denied;
 use crate::states::{Matched, Running};
-use crate::tokens::is_token;
+use crate::writes::read;
 use authenticator::Authenticator;
 use layout::{BLOCK, Header, Place, is_newer, is_open, shares};
 use refusal::Refusal;
 use store::Store;
 
-// The number that stands for a read among a call's writes.
-const READ: u8 = 0;
-
 impl Running {
+    // Lent one by one, as the caller has them; cleared by a line at the end of the call (see `clear`).
     /// Offers the image that lies from block `first` on, with its token. Where that is the tag, the image may be
     /// installed.
     pub fn offer<S: Store, K: Authenticator>(
@@ -39,9 +35,9 @@ impl Running {
         ensures key { K.Authenticator.key authenticator.new ≡ K.Authenticator.key authenticator.old }
         ensures call { (ws : List Write) × Offers K.Authenticator.means (K.Authenticator.key authenticator.old) self (S.Store.medium store.old) first token.now scratch.old (K.Authenticator.state authenticator.old) (offered ws result (S.Store.medium store.new)) scratch.new (K.Authenticator.state authenticator.new) }
     {
-        if scratch.len() != BLOCK {
+        let Some(scratch) = scratch.as_mut_array() else {
             return Err(Denied::Refused(self, Refusal::WrongLength));
-        }
+        };
         let answer = self.examine(store, authenticator, first, token, scratch);
         clear(scratch);
         answer
@@ -54,9 +50,8 @@ impl Running {
         authenticator: &mut K,
         first: usize,
         token: &[u8],
-        scratch: &mut [u8],
+        scratch: &mut [u8; BLOCK],
     ) -> Result<Matched, Denied<Running>>
-        requires { length scratch.old ≡ 512 }
         ensures key { K.Authenticator.key authenticator.new ≡ K.Authenticator.key authenticator.old }
         ensures call { Offers K.Authenticator.means (K.Authenticator.key authenticator.old) self (S.Store.medium store.now) first token.now scratch.old (K.Authenticator.state authenticator.old) (offered [] result (S.Store.medium store.now)) (cleared scratch.old) (K.Authenticator.state authenticator.new) }
     {
@@ -66,34 +61,36 @@ impl Running {
         if token.len() != K::tag_len() {
             return Err(Denied::Refused(self, Refusal::TagLength));
         }
-        if let Err(fault) = store.read(first, scratch) {
-            return Err(Denied::Supply(self.end(), Supply { write: READ, fault }));
+        if let Err(supply) = read(store, first, scratch) {
+            return Err(Denied::Supply(self.end(), supply));
         }
         let header = header(scratch);
-        match self.weigh(store, authenticator, first, header, token, scratch) {
-            Ok(place) => Ok(self.take(store, place, header, scratch)),
+        let reader = Reader { store };
+        match self.weigh(reader, authenticator, first, header, token, scratch) {
+            Ok(image) => Ok(self.take(image, header, scratch)),
             Err(refusal) => Err(Denied::Refused(self, refusal)),
         }
     }
 
-    // The place of the image that begins with `header`, if it may be installed and `token` is its token.
-    fn weigh<S: Store, K: Authenticator>(
+    // The image that begins with `header`, if it may be installed and `token` is its token.
+    fn weigh<'a, S: Store, K: Authenticator>(
         &self,
-        store: &S,
+        reader: Reader<'a, S>,
         authenticator: &mut K,
         first: usize,
         header: Header,
         token: &[u8],
-        scratch: &mut [u8],
-    ) -> Result<Place, Refusal>
-        requires { (length scratch.old ≡ 512) × ((Readable (S.Store.medium store.now)) × ((Open (length (S.Store.medium store.now).blocks) first) × (header ≡ header_of (held (S.Store.medium store.now) first)))) }
+        scratch: &mut [u8; BLOCK],
+    ) -> Result<Stored<'a, S>, Refusal>
+        requires { (Open (length (S.Store.medium reader.store.now).blocks) first) × (header ≡ header_of (held (S.Store.medium reader.store.now) first)) }
         ensures key { K.Authenticator.key authenticator.new ≡ K.Authenticator.key authenticator.old }
         ensures state { K.Authenticator.state authenticator.new ≡ tried (K.Authenticator.means.begin (K.Authenticator.key authenticator.old)) result (K.Authenticator.state authenticator.old) }
-        ensures answer { Found (weighing K.Authenticator.means (K.Authenticator.key authenticator.old) self.now (S.Store.medium store.now) first token.now) first header.len result }
+        ensures answer { MatchResult result (λ image. (Found (weighing K.Authenticator.means (K.Authenticator.key authenticator.old) self.now (S.Store.medium reader.entry.store.now) first token.now) first header.len (Ok image.place)) × (image.reader.store.now ≡ reader.entry.store.now)) (λ refusal. Fails (weighing K.Authenticator.means (K.Authenticator.key authenticator.old) self.now (S.Store.medium reader.entry.store.now) first token.now) refusal) }
     {
-        let place = self.admit(first, header, store.count())?;
-        if is_token(store, authenticator, place, token, scratch) {
-            Ok(place)
+        let place = self.admit(first, header, reader.count())?;
+        let image = Stored { reader, place };
+        if image.is_token(authenticator, token, scratch) {
+            Ok(image)
         } else {
             Err(Refusal::WrongToken)
         }
@@ -116,12 +113,17 @@ impl Running {
         Ok(place)
     }
 
-    // Keeps the image at `place`, which begins with `header`, for an install.
-    fn take<S: Store>(self, store: &S, place: Place, header: Header, scratch: &mut [u8]) -> Matched
-        requires { (length scratch.old ≡ 512) × ((Readable (S.medium store.now)) × ((Lies (length (S.medium store.now).blocks) place.first place.len) × ((header ≡ header_of (held (S.medium store.now) place.first)) × (place.len ≡ header.len)))) }
-        ensures { Takes self (S.medium store.now) place.first result }
+    // Keeps the image, which begins with `header`, for an install.
+    fn take<S: Store>(
+        self,
+        image: Stored<'_, S>,
+        header: Header,
+        scratch: &mut [u8; BLOCK],
+    ) -> Matched
+        requires { (header ≡ header_of (held (S.medium image.reader.store.now) image.place.first)) × (image.place.len ≡ header.len) }
+        ensures { Takes self (S.medium image.entry.reader.store.now) image.entry.place.first result }
     {
-        let vectors = vectors(store, place.first, place.len, scratch);
+        let vectors = image.vectors(scratch);
         let Header {
             len: _,
             version,
@@ -129,7 +131,7 @@ impl Running {
         } = header;
         Matched {
             running: self,
-            place,
+            place: image.place,
             version,
             nonce,
             vectors,

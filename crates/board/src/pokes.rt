@@ -7,7 +7,7 @@ ghost use Rattle.board.specs.Poked.{Poked, ReadRow, unread};
 ghost use Rattle.board.specs.Writes.{put as plan};
 
 use crate::answers::Supply;
-use crate::writes::put;
+use crate::writes::{put, read};
 use layout::{BLOCK, BLOCKS_BEGIN};
 use store::Store;
 use watch::Cycle;
@@ -18,32 +18,30 @@ pub(crate) fn poke_all<S: Store>(
     cycle: Cycle,
     byte: u8,
     dma_byte: u8,
-    scratch: &mut [u8],
+    scratch: &mut [u8; BLOCK],
 ) -> Result<(), Supply>
-    requires { length scratch.old ≡ 512 }
     ensures { ReadRow 1 (poking (S.medium store.old).blocks (pokes_of cycle byte dma_byte)) (S.medium store.old) result (S.medium store.new) }
 {
-    let next = poke(store, 1, cycle.writes, cycle.write_at, byte, scratch)?;
-    poke(store, next, cycle.dma, cycle.dma_at, dma_byte, scratch)?;
+    let next = poke(store, 1, cycle.write_at, byte, scratch)?;
+    poke(store, next, cycle.dma_at, dma_byte, scratch)?;
     Ok(())
 }
 
-// Puts a byte at an address, if it is to be and the address lies in a block, as write number `write`. Answers the number
+// Puts a byte at an address, if there is one and it lies in a block, as write number `write`. Answers the number
 // of the next write.
 fn poke<S: Store>(
     store: &mut S,
     write: u8,
-    mark: bool,
-    at: u16,
+    at: Option<u16>,
     byte: u8,
-    scratch: &mut [u8],
+    scratch: &mut [u8; BLOCK],
 ) -> Result<u8, Supply>
-    requires { (length scratch.old ≡ 512) × (write ≤ 2) }
-    ensures { Poked write (poking (S.medium store.old).blocks (poke_if mark at byte [])) (S.medium store.old) result (S.medium store.new) }
+    requires { write ≤ 2 }
+    ensures { Poked write (poking (S.medium store.old).blocks (poke_if at byte [])) (S.medium store.old) result (S.medium store.new) }
 {
-    if !mark {
+    let Some(at) = at else {
         return Ok(write);
-    }
+    };
     if !in_store(at, store.count()) {
         return Ok(write);
     }
@@ -52,37 +50,27 @@ fn poke<S: Store>(
     Ok(write + 1)
 }
 
-// Whether an address lies in one of `count` blocks.
+// Whether an address lies in one of `count` blocks. As `layout` tests what is guarded, but for blocks without addresses, too.
 fn in_store(at: u16, count: usize) -> bool
     ensures { result ≡ nat_le 8192 at && nat_lt ((at - 8192) / 512) count }
 {
     BLOCKS_BEGIN <= at && (at - BLOCKS_BEGIN) as usize / BLOCK < count
 }
 
-// Puts a byte into a block, as write number `write`.
+// Puts a byte into a block, as write number `write`. Store, byte and scratch buffer come from three places; that there is such a
+// block, `poke` has just tested.
 fn rewrite<S: Store>(
     store: &mut S,
     write: u8,
     block: usize,
     offset: usize,
     byte: u8,
-    scratch: &mut [u8],
+    scratch: &mut [u8; BLOCK],
 ) -> Result<(), Supply>
-    requires { (length scratch.old ≡ 512) × ((block < length (S.medium store.old).blocks) × (offset < 512)) }
+    requires { (block < length (S.medium store.old).blocks) × (offset < 512) }
     ensures { ReadRow write (plan block (slice_set (held (S.medium store.old) block) offset byte) ∷ []) (S.medium store.old) result (S.medium store.new) }
 {
     read(store, block, scratch)?;
     scratch[offset] = byte;
     put(store, write, block, scratch)
-}
-
-/// Reads a block of a store that may be dark.
-pub(crate) fn read<S: Store>(store: &S, block: usize, scratch: &mut [u8]) -> Result<(), Supply>
-    requires { (length scratch.old ≡ 512) × (block < length (S.medium store.now).blocks) }
-    ensures { MatchResult result (λ _. ((S.medium store.now).live ≡ true) × (scratch.new ≡ held (S.medium store.now) block)) (λ s. ((S.medium store.now).live ≡ false) × (s ≡ unread (S.medium store.now) block)) }
-{
-    match store.read(block, scratch) {
-        Ok(()) => Ok(()),
-        Err(fault) => Err(Supply { write: 0, fault }),
-    }
 }

@@ -43,5 +43,5 @@ impl Running {
 fn fills(place: Place, block: usize) -> bool
     ensures { Decides result (Fills place.first place.len block) }
 {
-    place.first <= block && block - place.first < blocks_of(place.len)
+    (place.first..place.first + blocks_of(place.len)).contains(&block)
 }

@@ -1,7 +1,7 @@
 //! Start: what the control blocks point to runs, after an install that did not end is ended.
 
-ghost use Rattle.std.specs.Prelude.{◌≡◌, ◌<◌, ◌≤◌, List, [], length, Decides, MatchOption};
-ghost use Rattle.control.specs.Blocks.{Stands, flag_in};
+ghost use Rattle.std.specs.Prelude.{◌≡◌, ◌≤◌, List, [], length, Decides, MatchOption};
+ghost use Rattle.control.specs.Blocks.{Stands, block_of, flag_in};
 ghost use Rattle.control.specs.declared.kind.Control.TheVariants.{Vectors};
 ghost use Rattle.control.specs.declared.kind.Flag.TheVariants.{Finished};
 ghost use Rattle.control.specs.Calls.{Pointed};
@@ -15,8 +15,8 @@ ghost use Rattle.board.specs.Writes.{Write};
 
 use crate::buffers::{clear, is_store};
 use crate::closing::close;
-use crate::confirm::{confirm, launch};
-use crate::reading::{fetch, header, nonce, vectors};
+use crate::confirm::confirm;
+use crate::reading::{Reader, Stored, header};
 use crate::results::{Started, Unstarted};
 use crate::states::{Cold, Running};
 use authenticator::{Authenticator, TAG_BUFFER};
@@ -26,6 +26,7 @@ use refusal::Refusal;
 use store::Store;
 
 impl Cold {
+    // Lent one by one, as the caller has them; cleared by a line at the end of the call (see `clear`).
     /// Wakes the store and runs the image that is installed there. An install that did not end is ended first, and
     /// confirmed in the register.
     pub fn start<S: Store, K: Authenticator>(
@@ -38,23 +39,25 @@ impl Cold {
         ensures key { K.Authenticator.key authenticator.new ≡ K.Authenticator.key authenticator.old }
         ensures call { (ws : List Write) × Starts K.Authenticator.means (K.Authenticator.key authenticator.old) (S.Store.medium store.old) scratch.old register.old (K.Authenticator.state authenticator.old) (started ws result (S.Store.medium store.new)) scratch.new register.new (K.Authenticator.state authenticator.new) }
     {
-        if scratch.len() != BLOCK || register.len() != TAG_BUFFER {
+        let Some(scratch) = scratch.as_mut_array() else {
             return Err(Unstarted::Refused(self, Refusal::WrongLength));
-        }
+        };
+        let Some(register) = register.as_mut_array() else {
+            return Err(Unstarted::Refused(self, Refusal::WrongLength));
+        };
         let answer = self.resume(store, authenticator, scratch, register);
         clear(scratch);
         answer
     }
 
-    // The start with buffers of the right lengths, but for the scratch buffer's end.
+    // The start, but for the scratch buffer's end.
     fn resume<S: Store, K: Authenticator>(
         self,
         store: &mut S,
         authenticator: &mut K,
-        scratch: &mut [u8],
-        register: &mut [u8],
+        scratch: &mut [u8; BLOCK],
+        register: &mut [u8; TAG_BUFFER],
     ) -> Result<Started, Unstarted>
-        requires { (length scratch.old ≡ 512) × (length register.old ≡ 32) }
         ensures key { K.Authenticator.key authenticator.new ≡ K.Authenticator.key authenticator.old }
         ensures call { (ws : List Write) × Starts K.Authenticator.means (K.Authenticator.key authenticator.old) (S.Store.medium store.old) scratch.old register.old (K.Authenticator.state authenticator.old) (started ws result (S.Store.medium store.new)) (cleared scratch.old) register.new (K.Authenticator.state authenticator.new) }
     {
@@ -63,21 +66,35 @@ impl Cold {
             return Err(Unstarted::Refused(self, Refusal::StoreSize));
         }
         store.wake();
-        match flag(store, scratch) {
-            Flag::Finished => self.run(store, scratch),
+        let flag = Reader { store }.flag(scratch);
+        match flag {
+            Flag::Finished => self.run(Reader { store }, scratch),
             Flag::Unfinished => self.finish(store, authenticator, scratch, register),
         }
     }
 
     // Runs what block 0 points to.
-    fn run<S: Store>(self, store: &S, scratch: &mut [u8]) -> Result<Started, Unstarted>
-        requires { (length scratch.old ≡ 512) × ((Readable (S.medium store.now)) × (8 ≤ length (S.medium store.now).blocks)) }
-        ensures { Resumes Finished (S.medium store.now) (started [] result (S.medium store.now)) }
+    fn run<S: Store>(
+        self,
+        reader: Reader<'_, S>,
+        scratch: &mut [u8; BLOCK],
+    ) -> Result<Started, Unstarted>
+        ensures { Resumes Finished (S.medium reader.entry.store.now) (started [] result (S.medium reader.entry.store.now)) }
     {
-        match pointed(store, Control::Pointer.block(), scratch) {
-            None => Err(Unstarted::NotLoaded(self, Control::Pointer.block())),
-            Some(running) => self.run_image(store, running, scratch),
+        let Some(running) = reader.pointed(Control::Pointer, scratch) else {
+            return Err(Unstarted::NotLoaded(self, Control::Pointer.block()));
+        };
+        if !reader.vectors_stand(scratch) {
+            let Cold {} = running.end();
+            return Err(Unstarted::NotLoaded(self, Control::Vectors.block()));
         }
+        let Cold {} = self;
+        let launch = running.place.into();
+        Ok(Started {
+            running,
+            launch,
+            confirmed: false,
+        })
     }
 
     // Ends the install of what block 3 points to.
@@ -85,43 +102,21 @@ impl Cold {
         self,
         store: &mut S,
         authenticator: &mut K,
-        scratch: &mut [u8],
-        register: &mut [u8],
+        scratch: &mut [u8; BLOCK],
+        register: &mut [u8; TAG_BUFFER],
     ) -> Result<Started, Unstarted>
-        requires { (length scratch.old ≡ 512) × ((length register.old ≡ 32) × ((register.old ≡ cleared register.old) × ((Readable (S.Store.medium store.old)) × (8 ≤ length (S.Store.medium store.old).blocks)))) }
+        requires { (register.old ≡ cleared register.old) × ((Readable (S.Store.medium store.old)) × (4 ≤ length (S.Store.medium store.old).blocks)) }
         ensures key { K.Authenticator.key authenticator.new ≡ K.Authenticator.key authenticator.old }
         ensures call { (ws : List Write) × Resumed K.Authenticator.means (K.Authenticator.key authenticator.old) (S.Store.medium store.old) register.old (K.Authenticator.state authenticator.old) (started ws result (S.Store.medium store.new)) register.new (K.Authenticator.state authenticator.new) }
     {
-        match pointed(store, Control::BufferPointer.block(), scratch) {
+        let pointed = Reader { store }.pointed(Control::BufferPointer, scratch);
+        match pointed {
             None => Err(Unstarted::NotLoaded(self, Control::BufferPointer.block())),
             Some(running) => {
                 let Cold {} = self;
                 running.finish(store, authenticator, scratch, register)
             }
         }
-    }
-
-    // Runs it, if the vectors block stands.
-    fn run_image<S: Store>(
-        self,
-        store: &S,
-        running: Running,
-        scratch: &mut [u8],
-    ) -> Result<Started, Unstarted>
-        requires { (length scratch.old ≡ 512) × ((Readable (S.medium store.now)) × ((8 ≤ length (S.medium store.now).blocks) × (RunsBy (S.medium store.now) 0 running))) }
-        ensures { Resumes Finished (S.medium store.now) (started [] result (S.medium store.now)) }
-    {
-        if !vectors_stand(store, scratch) {
-            let Cold {} = running.end();
-            return Err(Unstarted::NotLoaded(self, Control::Vectors.block()));
-        }
-        let Cold {} = self;
-        let launch = launch(running.place);
-        Ok(Started {
-            running,
-            launch,
-            confirmed: false,
-        })
     }
 }
 
@@ -131,22 +126,26 @@ impl Running {
         self,
         store: &mut S,
         authenticator: &mut K,
-        scratch: &mut [u8],
-        register: &mut [u8],
+        scratch: &mut [u8; BLOCK],
+        register: &mut [u8; TAG_BUFFER],
     ) -> Result<Started, Unstarted>
-        requires { (length scratch.old ≡ 512) × ((length register.old ≡ 32) × ((register.old ≡ cleared register.old) × ((Readable (S.Store.medium store.old)) × (RunsBy (S.Store.medium store.old) 3 self)))) }
+        requires { (register.old ≡ cleared register.old) × ((Readable (S.Store.medium store.old)) × (RunsBy (S.Store.medium store.old) 3 self)) }
         ensures key { K.Authenticator.key authenticator.new ≡ K.Authenticator.key authenticator.old }
         ensures call { (ws : List Write) × Resumed K.Authenticator.means (K.Authenticator.key authenticator.old) (S.Store.medium store.old) register.old (K.Authenticator.state authenticator.old) (started ws result (S.Store.medium store.new)) register.new (K.Authenticator.state authenticator.new) }
     {
         let place = self.place;
-        let nonce = nonce(store, place.first, place.len, scratch);
-        let vectors = vectors(store, place.first, place.len, scratch);
+        let image = Stored {
+            reader: Reader { store },
+            place,
+        };
+        let nonce = image.nonce(scratch);
+        let vectors = image.vectors(scratch);
         match close(store, 1, place, vectors, scratch) {
             Ok(()) => {
                 confirm(authenticator, self.version, nonce, register);
                 Ok(Started {
                     running: self,
-                    launch: launch(place),
+                    launch: place.into(),
                     confirmed: true,
                 })
             }
@@ -155,55 +154,44 @@ impl Running {
     }
 }
 
-// What the flag block tells.
-fn flag<S: Store>(store: &S, scratch: &mut [u8]) -> Flag
-    requires { (length scratch.old ≡ 512) × ((Readable (S.medium store.now)) × (8 ≤ length (S.medium store.now).blocks)) }
-    ensures { result ≡ flag_in (held (S.medium store.now) 2) }
-{
-    fetch(store, Control::Flag.block(), scratch);
-    match read_flag(scratch) {
-        Ok(flag) => flag,
-        Err(_) => unreachable(),
+impl<S: Store> Reader<'_, S> {
+    // What the flag block tells.
+    fn flag(&self, scratch: &mut [u8; BLOCK]) -> Flag
+        ensures { result ≡ flag_in (held (S.medium self.now.store.now) 2) }
+    {
+        self.fetch_control(Control::Flag, scratch);
+        read_flag(scratch).unwrap()
     }
-}
 
-// Whether the vectors block stands.
-fn vectors_stand<S: Store>(store: &S, scratch: &mut [u8]) -> bool
-    requires { (length scratch.old ≡ 512) × ((Readable (S.medium store.now)) × (8 ≤ length (S.medium store.now).blocks)) }
-    ensures { Decides result (Stands Vectors (held (S.medium store.now) 1)) }
-{
-    fetch(store, Control::Vectors.block(), scratch);
-    match stands(Control::Vectors, scratch) {
-        Ok(yes) => yes,
-        Err(_) => unreachable(),
+    // Whether the vectors block stands.
+    fn vectors_stand(&self, scratch: &mut [u8; BLOCK]) -> bool
+        ensures { Decides result (Stands Vectors (held (S.medium self.now.store.now) 1)) }
+    {
+        self.fetch_control(Control::Vectors, scratch);
+        stands(Control::Vectors, scratch).unwrap()
     }
-}
 
-// The image that `block` is a legal pointer to, if it is one.
-fn pointed<S: Store>(store: &S, block: usize, scratch: &mut [u8]) -> Option<Running>
-    requires { (length scratch.old ≡ 512) × ((Readable (S.medium store.now)) × (block < length (S.medium store.now).blocks)) }
-    ensures { MatchOption result (LegalAt (S.medium store.now) block → ⊥) (λ running. RunsBy (S.medium store.now) block running) }
-{
-    let place = place_at(store, block, scratch)?;
-    fetch(store, place.first, scratch);
-    let header = header(scratch);
-    if header.len != place.len {
-        return None;
+    // The image that a control block is a legal pointer to, if it is one.
+    fn pointed(&self, control: Control, scratch: &mut [u8; BLOCK]) -> Option<Running>
+        ensures { MatchOption result (LegalAt (S.medium self.now.store.now) (block_of control) → ⊥) (λ running. RunsBy (S.medium self.now.store.now) (block_of control) running) }
+    {
+        let place = self.place_at(control, scratch)?;
+        self.fetch(place.first, scratch);
+        let header = header(scratch);
+        if header.len != place.len {
+            return None;
+        }
+        Some(Running {
+            place,
+            version: header.version,
+        })
     }
-    Some(Running {
-        place,
-        version: header.version,
-    })
-}
 
-// The place that `block` points to, if it points to one.
-fn place_at<S: Store>(store: &S, block: usize, scratch: &mut [u8]) -> Option<Place>
-    requires { (length scratch.old ≡ 512) × ((Readable (S.medium store.now)) × (block < length (S.medium store.now).blocks)) }
-    ensures { Pointed (length (S.medium store.now).blocks) (held (S.medium store.now) block) result }
-{
-    fetch(store, block, scratch);
-    match read_pointer(scratch, store.count()) {
-        Ok(place) => place,
-        Err(_) => unreachable(),
+    // The place that a control block points to, if it points to one.
+    fn place_at(&self, control: Control, scratch: &mut [u8; BLOCK]) -> Option<Place>
+        ensures { Pointed (length (S.medium self.now.store.now).blocks) (held (S.medium self.now.store.now) (block_of control)) result }
+    {
+        self.fetch_control(control, scratch);
+        read_pointer(scratch, self.count()).unwrap()
     }
 }

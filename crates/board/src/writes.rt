@@ -1,29 +1,31 @@
-//! Writes by their numbers in a call.
+//! Reads and writes by their numbers in a call.
 
-ghost use Rattle.std.specs.Prelude.{◌≡◌, [], ◌∷◌};
+ghost use Rattle.std.specs.Prelude.{◌≡◌, ◌<◌, true, false, [], ◌∷◌, length, MatchResult};
+ghost use Rattle.store.specs.Medium.{held};
+ghost use Rattle.board.specs.Poked.{unread};
 ghost use Rattle.board.specs.Writes.{put as plan};
-ghost use Rattle.board.specs.Rows.{Numbered, Row};
+ghost use Rattle.board.specs.Rows.{Row};
 
 use crate::answers::Supply;
-use store::{Fault, Store};
+use layout::BLOCK;
+use store::Store;
 
-impl From<(u8, Fault)> for Supply {
-    ghost from_gives = { λ p r. (r.write ≡ p.0) × (r.fault ≡ p.1) };
+// The number that stands for a read among a call's writes.
+const READ: u8 = 0;
 
-    fn from(p: (u8, Fault)) -> Supply {
-        let (write, fault) = p;
-        Supply { write, fault }
-    }
-}
-
-// The store's answer to write number `write`.
-fn numbered(write: u8, answer: Result<(), Fault>) -> Result<(), (u8, Fault)>
-    ensures { Numbered write answer result }
+// Beside `put`: it takes the store as `&`, the bytes the other way, and has no number.
+/// Reads a block of a store that may be dark.
+pub(crate) fn read<S: Store>(
+    store: &S,
+    block: usize,
+    scratch: &mut [u8; BLOCK],
+) -> Result<(), Supply>
+    requires { block < length (S.medium store.now).blocks }
+    ensures { MatchResult result (λ _. ((S.medium store.now).live ≡ true) × (scratch.new ≡ held (S.medium store.now) block)) (λ s. ((S.medium store.now).live ≡ false) × (s ≡ unread (S.medium store.now) block)) }
 {
-    match answer {
-        Ok(()) => Ok(()),
-        Err(fault) => Err((write, fault)),
-    }
+    store
+        .read(block, scratch)
+        .map_err(|fault| Supply::from((READ, fault)))
 }
 
 /// Makes write number `write` of a call.
@@ -35,5 +37,7 @@ pub(crate) fn put<S: Store>(
 ) -> Result<(), Supply>
     ensures { Row write (plan block bytes.now ∷ []) (S.medium store.old) result (S.medium store.new) }
 {
-    Ok(numbered(write, store.write(block, bytes))?)
+    store
+        .write(block, bytes)
+        .map_err(|fault| Supply::from((write, fault)))
 }

@@ -30,14 +30,3 @@ fn lay(bytes: &mut [u8], at: usize, part: &[u8])
 {
     bytes[at..at + part.len()].copy_from_slice(part);
 }
-
-/// The bytes of an image for one of its two blocks, zeros after its end.
-pub(crate) fn page(image: &[u8; LEN], second: bool) -> [u8; 512] {
-    let mut bytes = [0; 512];
-    if second {
-        bytes[0..LEN - 512].copy_from_slice(&image[512..LEN]);
-    } else {
-        bytes.copy_from_slice(&image[0..512]);
-    }
-    bytes
-}

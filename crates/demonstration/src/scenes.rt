@@ -1,15 +1,16 @@
 //! The lives of the demonstration.
 
-use crate::image::{LEN, NEW, OLD, image, nonce};
-use crate::script::Script;
+use crate::image::{NEW, OLD, image};
+use crate::script::{Cuts, Script};
 use authenticator::Authenticator;
-use chip::ChipStore;
+use chip::Nor;
 use cmac::Cmac;
+use commands::Kind;
 use hmac::Hmac;
 use lifecycle::{Driver, Unbegun, live};
-use planner::{Request, token};
+use planner::token;
 use std::alloc::{AllocError, Global};
-use store::{PlainStore, Store};
+use store::{MemoryStore, Plain, Store};
 
 // The blocks of a store: the control blocks, and two images of two blocks each.
 const MEMORY: usize = 8 * 512;
@@ -23,102 +24,56 @@ const CUTS: [&str; 5] = [
     "write 5, the flag: torn, so it reads unfinished, and bEP counts",
 ];
 
-#[derive(Clone, Copy)]
-enum Make {
-    Plain,
-    Chip,
-}
-
 /// The text of the demonstration.
 pub fn demonstrate(heap: Global) -> Result<String, AllocError> {
-    let mut text = String::from_str(
+    let text = String::from_str(
         heap,
         "A board runs version 7; version 8 is staged, offered and installed, and the supply is cut at each of the five\nwrites of the install in turn. After every cut the next start runs one whole program, the right one.\n",
     )?;
-    for (name, make) in [("plain store", Make::Plain), ("chip store", Make::Chip)] {
-        for (kind, keyed) in [("HMAC-SHA-256", true), ("AES-CMAC", false)] {
-            text.push_str("\n")?;
-            text.push_str(name)?;
-            text.push_str(", ")?;
-            text.push_str(kind)?;
-            text.push_str("\n")?;
-            for (i, name) in CUTS.iter().enumerate() {
-                text = scene(heap, text, make, keyed, i + 1, name)?;
-            }
+    let text = scenes::<Plain>(heap, text, "plain store")?;
+    scenes::<Nor>(heap, text, "chip store")
+}
+
+// All cuts on a store, under each authenticator.
+fn scenes<M: Cuts>(heap: Global, mut text: String, store: &str) -> Result<String, AllocError> {
+    for kind in [Kind::Hmac, Kind::Cmac] {
+        let name = kind.name();
+        text.push_str(format!(in heap; "\n{store}, {name}\n")?.as_str())?;
+        for (i, cut) in CUTS.iter().enumerate() {
+            // A new authenticator for the board, and one for the planner.
+            text = match kind {
+                Kind::Hmac => life::<M, Hmac>(heap, text, hmac(), hmac(), i + 1, cut)?,
+                Kind::Cmac => life::<M, Cmac>(heap, text, cmac(), cmac(), i + 1, cut)?,
+            };
         }
     }
     Ok(text)
 }
 
-// One life with its cut, under a new authenticator for the board and one for the planner.
-fn scene(
-    heap: Global,
-    text: String,
-    make: Make,
-    keyed: bool,
-    cut: usize,
-    name: &str,
-) -> Result<String, AllocError> {
-    if keyed {
-        life(heap, text, make, hmac(), hmac(), cut, name)
-    } else {
-        life(heap, text, make, cmac(), cmac(), cut, name)
-    }
-}
-
 fn hmac() -> Hmac {
-    match Hmac::new(&[0x2B; 32], &mut [0; 64]) {
-        Ok(hmac) => hmac,
-        Err(_) => unreachable(),
-    }
+    hmac::keyed(&[0x2B; 32], &mut [0; 64]).unwrap()
 }
 
 fn cmac() -> Cmac {
-    match Cmac::new(&[0x2B; 16]) {
-        Ok(cmac) => cmac,
-        Err(_) => unreachable(),
-    }
+    cmac::keyed(&[0x2B; 16]).unwrap()
 }
 
-fn life<K: Authenticator + Drop>(
+// One life with its cut.
+fn life<M: Cuts, K: Authenticator + Drop>(
     heap: Global,
     text: String,
-    make: Make,
     board: K,
     mut planner: K,
     cut: usize,
     name: &str,
 ) -> Result<String, AllocError> {
     let new = image(NEW);
-    let mut mark = [0; 32];
-    let _ = token(&mut planner, &new, &mut mark);
-    let mut wrong = mark;
-    wrong[0] ^= 0xFF;
-    let mut script = Script {
-        heap,
-        image: new,
-        token: mark,
-        wrong,
-        tag: K::tag_len(),
-        cut,
-        told: cut == 1,
-        at: 0,
-        cutting: false,
-        text,
-        confirmation: Vec::new(heap),
-        starved: false,
-    };
-    script.begin(name)?;
-    match make {
-        Make::Plain => {
-            let mut memory = [0; MEMORY];
-            play(heap, PlainStore::new(&mut memory), board, &mut script)?;
-        }
-        Make::Chip => {
-            let mut memory = [0xFF; MEMORY];
-            play(heap, ChipStore::new(&mut memory), board, &mut script)?;
-        }
-    }
+    // A buffer for the tag of any authenticator; its front is the tag.
+    let mut tag = [0; 32];
+    let _ = token(&mut planner, &new, &mut tag);
+    let mut script = Script::begin(heap, text, new, &tag[..K::tag_len().min(32)], cut, name)?;
+    let mut memory = [M::BLANK; MEMORY];
+    play(heap, MemoryStore::<M>::new(&mut memory), board, &mut script)?;
     script.end(&mut planner)
 }
 

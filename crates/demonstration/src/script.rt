@@ -2,237 +2,309 @@
 
 ghost use Rattle.std.specs.Prelude.{◌≡◌};
 
-use crate::image::{LEN, NEW, OLD, nonce, page};
+use crate::image::{LEN, NEW, OLD, nonce};
 use authenticator::Authenticator;
 use board::Answer;
-use chip::ChipStore;
+use chip::Nor;
 use commands::push_hex;
 use lifecycle::{Call, Driver, Order, Reply, Standing};
 use planner::Request;
 use std::alloc::{AllocError, Global};
-use store::{CutPlan, PlainStore, Residue};
+use std::fmt;
+use store::{BLOCK_LEN, CutPlan, Make, MemoryStore, Plain, Residue};
 
 /// The block from which the new image lies on.
-pub(crate) const FIRST: usize = 6;
+const FIRST: usize = 6;
+
+/// The calls of the script, each once, in the order of `STEPS`.
+#[derive(Clone, Copy, PartialEq, Eq)]
+enum Step {
+    Start,
+    StageFirst,
+    StageSecond,
+    OfferWrong,
+    Offer,
+    /// The install that is cut.
+    CutInstall,
+    Restart,
+    /// An offer and an install, where the old image runs again.
+    OfferAgain,
+    Install,
+}
+
+const STEPS: [Step; 9] = [
+    Step::Start,
+    Step::StageFirst,
+    Step::StageSecond,
+    Step::OfferWrong,
+    Step::Offer,
+    Step::CutInstall,
+    Step::Restart,
+    Step::OfferAgain,
+    Step::Install,
+];
+
+impl Step {
+    /// Whether it comes ahead of the install that is cut.
+    fn is_prelude(self) -> bool {
+        match self {
+            Step::Start | Step::StageFirst | Step::StageSecond | Step::OfferWrong | Step::Offer =>
+                true,
+            Step::CutInstall | Step::Restart | Step::OfferAgain | Step::Install => false,
+        }
+    }
+}
+
+impl fmt::Display for Step {
+    fn fmt<W: fmt::Write>(&self, f: &mut fmt::Formatter<W>) -> fmt::Result {
+        match self {
+            Step::Start | Step::Restart => write!(f, "start"),
+            Step::StageFirst => write!(f, "stage block {FIRST}"),
+            Step::StageSecond => write!(f, "stage block {}", FIRST + 1),
+            Step::OfferWrong => write!(f, "offer with a wrong token"),
+            Step::Offer | Step::OfferAgain => write!(f, "offer"),
+            Step::CutInstall | Step::Install => write!(f, "install"),
+        }
+    }
+}
+
+/// The version that a board tells of last.
+#[derive(Clone, Copy)]
+struct Version(Standing);
+
+impl fmt::Display for Version {
+    fn fmt<W: fmt::Write>(&self, f: &mut fmt::Formatter<W>) -> fmt::Result {
+        match self.0 {
+            Standing::Cold => write!(f, "no version"),
+            Standing::Running(_, version) | Standing::Matched(_, _, _, version, _, _) => {
+                write!(f, "version {version}")
+            }
+        }
+    }
+}
+
+/// What a call answered.
+#[derive(Clone, Copy)]
+struct Said(Reply);
+
+impl fmt::Display for Said {
+    fn fmt<W: fmt::Write>(&self, f: &mut fmt::Formatter<W>) -> fmt::Result {
+        let version = Version(self.0.standing);
+        match self.0.answer {
+            None => write!(f, "not in this state"),
+            Some(Answer::Done) => write!(f, "done"),
+            Some(Answer::Runs(launch)) | Some(Answer::Confirmed(launch)) => {
+                write!(f, "runs {version}, entry {}", launch.entry)
+            }
+            Some(Answer::Passes) => write!(f, "pass"),
+            Some(Answer::Resets) => write!(f, "reset"),
+            Some(Answer::Matches) => write!(f, "matches, {version}"),
+            Some(Answer::Refused(refusal)) => {
+                write!(f, "refused with {}: {refusal}", refusal.number())
+            }
+            Some(Answer::Supply(supply)) => {
+                write!(f, "cut at write {}; the board is cold", supply.write)
+            }
+            Some(Answer::NotLoaded(block)) => write!(f, "not loaded, block {block}"),
+        }
+    }
+}
+
+#[derive(Drop)]
+pub(crate) struct Script {
+    heap: Global,
+    image: [u8; LEN],
+    token: Vec<u8>,
+    /// Another one, which is not the tag.
+    wrong: Vec<u8>,
+    /// The write of the install at which the supply fails, from 1.
+    cut: usize,
+    /// The call that was made last.
+    made: Option<Step>,
+    /// Those that come.
+    steps: &'static [Step],
+    text: String,
+    /// The last confirmation.
+    confirmation: Option<Vec<u8>>,
+    /// Whether there was memory for each line of the text.
+    written: Result<(), AllocError>,
+}
+
+impl Script {
+    /// Says where this life is cut.
+    pub fn begin(
+        heap: Global,
+        mut text: String,
+        image: [u8; LEN],
+        token: &[u8],
+        cut: usize,
+        name: &str,
+    ) -> Result<Script, AllocError> {
+        if cut == 1 {
+            text.push_str("  the factory loads version 7 from block 4 on\n")?;
+        }
+        text.push_str(format!(in heap; "  install cut at {name}\n")?.as_str())?;
+        let mut wrong = Vec::from_slice(heap, token)?;
+        if let Some(byte) = wrong.first_mut() {
+            *byte ^= 0xFF;
+        }
+        Ok(Script {
+            heap,
+            image,
+            token: Vec::from_slice(heap, token)?,
+            wrong,
+            cut,
+            made: None,
+            steps: &STEPS,
+            text,
+            confirmation: None,
+            written: Ok(()),
+        })
+    }
+
+    /// Ends the text of this life: what the planner says of the confirmation.
+    pub fn end<K: Authenticator>(self, planner: &mut K) -> Result<String, AllocError> {
+        self.written?;
+        let request = Request::open(NEW as u16, nonce(NEW));
+        // Words of this one place, which no type has.
+        let verdict = match &self.confirmation {
+            None => {
+                request.give_up();
+                "no confirmation came"
+            }
+            Some(confirmation) => match request.verify(planner, confirmation) {
+                Ok(()) => "the confirmation is right",
+                Err(_) => "the confirmation is not right",
+            },
+        };
+        let mut text = self.text;
+        text.push_str(format!(in self.heap; "    planner: {verdict}\n")?.as_str())?;
+        Ok(text)
+    }
+
+    /// Tells of the last call, and names the next one.
+    fn turn(&mut self, last: Reply, register: &[u8]) -> Result<Option<Order>, AllocError> {
+        self.tell(last, register)?;
+        let Some((step, rest)) = self.steps.split_first() else {
+            return Ok(None);
+        };
+        let Some(call) = self.call(*step, last)? else {
+            return Ok(None);
+        };
+        self.made = Some(*step);
+        self.steps = rest;
+        Ok(Some(Order {
+            call,
+            scratch: 512,
+            register: 32,
+        }))
+    }
+
+    // The call of a step, if it is made.
+    fn call(&self, step: Step, last: Reply) -> Result<Option<Call>, AllocError> {
+        let call = match step {
+            Step::Start | Step::Restart => Call::Start,
+            Step::StageFirst => self.stage(FIRST, &self.image[..BLOCK_LEN])?,
+            Step::StageSecond => self.stage(FIRST + 1, &self.image[BLOCK_LEN..])?,
+            Step::OfferWrong => Call::Offer(FIRST, self.wrong.clone()?),
+            Step::Offer => Call::Offer(FIRST, self.token.clone()?),
+            Step::OfferAgain => match last.standing {
+                Standing::Running(_, version) if version == OLD as u16 => {
+                    Call::Offer(FIRST, self.token.clone()?)
+                }
+                _ => return Ok(None),
+            },
+            Step::CutInstall | Step::Install => Call::Install,
+        };
+        Ok(Some(call))
+    }
+
+    // A part of the image, and zeros after its end.
+    fn stage(&self, block: usize, part: &[u8]) -> Result<Call, AllocError> {
+        let mut bytes = Vec::from_slice(self.heap, part)?;
+        bytes.resize(BLOCK_LEN, 0)?;
+        Ok(Call::Stage(block, bytes))
+    }
+
+    // What the last call was, and what came of it. The calls ahead of the install are told in the first life alone.
+    fn tell(&mut self, last: Reply, register: &[u8]) -> Result<(), AllocError> {
+        let Some(step) = self.made else {
+            return Ok(());
+        };
+        let told = self.cut == 1 || !step.is_prelude();
+        if told {
+            let said = Said(last);
+            let line = format!(in self.heap; "    {step}: {said}")?;
+            self.text.push_str(line.as_str())?;
+        }
+        if let Some(Answer::Confirmed(_)) = last.answer {
+            // The register has room for the tag of any authenticator.
+            let tag = &register[..self.token.len().min(register.len())];
+            if told {
+                self.text.push_str(", confirmed\n      ")?;
+                push_hex(&mut self.text, tag)?;
+            }
+            self.confirmation = Some(Vec::from_slice(self.heap, tag)?);
+        }
+        if told {
+            self.text.push_str("\n")?;
+        }
+        Ok(())
+    }
+}
+
+/// A kind of memory whose plans can cut the write of a given number, from 1.
+pub(crate) trait Cuts: Make {
+    /// A byte of a new memory.
+    const BLANK: u8;
+
+    fn cut_at(write: usize) -> Self::Plan;
+}
+
+impl Cuts for Plain {
+    const BLANK: u8 = 0;
+
+    fn cut_at(write: usize) -> CutPlan {
+        CutPlan {
+            writes: write.saturating_sub(1),
+            leaves: Residue::Repeated(0xA5),
+        }
+    }
+}
 
 // A write of a chip store has 512 or 513 operations; this cuts it in its middle.
 const CHIP_WRITE: usize = 513;
 
 const CHIP_MIDDLE: usize = 256;
 
-#[derive(Drop)]
-pub(crate) struct Script {
-    pub heap: Global,
-    pub image: [u8; LEN],
-    pub token: [u8; 32],
-    /// Another one, which is not the tag.
-    pub wrong: [u8; 32],
-    /// The length of a tag.
-    pub tag: usize,
-    /// The write of the install at which the supply fails, from 1.
-    pub cut: usize,
-    /// Whether the calls ahead of the install are told.
-    pub told: bool,
-    /// Which call is next, and whether the cut is to be planned.
-    pub at: usize,
-    pub cutting: bool,
-    pub text: String,
-    /// The last confirmation; nothing ahead of the first.
-    pub confirmation: Vec<u8>,
-    /// There was no memory for the text.
-    pub starved: bool,
+impl Cuts for Nor {
+    const BLANK: u8 = 0xFF;
+
+    fn cut_at(write: usize) -> usize {
+        write
+            .saturating_sub(1)
+            .saturating_mul(CHIP_WRITE)
+            .saturating_add(CHIP_MIDDLE)
+    }
 }
 
-impl Script {
-    /// Says where this life is cut.
-    pub fn begin(&mut self, cut: &str) -> Result<(), AllocError> {
-        if self.told {
-            self.text
-                .push_str("  the factory loads version 7 from block 4 on\n")?;
-        }
-        self.text.push_str("  install cut at ")?;
-        self.text.push_str(cut)?;
-        self.text.push_str("\n")
-    }
-
-    /// Ends the text of this life: what the planner says of the confirmation.
-    pub fn end<K: Authenticator>(self, planner: &mut K) -> Result<String, AllocError> {
-        let request = Request::open(NEW as u16, nonce(NEW));
-        let verdict = if self.confirmation.is_empty() {
-            request.give_up();
-            "    planner: no confirmation came\n"
-        } else {
-            match request.verify(planner, self.confirmation.as_slice()) {
-                Ok(()) => "    planner: the confirmation is right\n",
-                Err(_) => "    planner: the confirmation is not right\n",
-            }
-        };
-        let mut text = self.text;
-        text.push_str(verdict)?;
-        Ok(text)
-    }
-
-    /// Tells of the last call, and names the next one.
-    fn turn(&mut self, last: Reply, register: &[u8]) -> Option<Order> {
-        match self.tell(last, register) {
-            Ok(()) => {}
-            Err(_) => {
-                self.starved = true;
+impl<M: Cuts> Driver<MemoryStore<'_, M>> for Script {
+    fn next(
+        &mut self,
+        last: Reply,
+        store: &mut MemoryStore<'_, M>,
+        register: &[u8],
+    ) -> Option<Order> {
+        let order = match self.turn(last, register) {
+            Ok(order) => order?,
+            Err(error) => {
+                self.written = Err(error);
                 return None;
             }
-        }
-        match self.call(last) {
-            Ok(Some(call)) => {
-                self.at = self.at.saturating_add(1);
-                Some(Order {
-                    call,
-                    scratch: 512,
-                    register: 32,
-                })
-            }
-            Ok(None) => None,
-            Err(_) => {
-                self.starved = true;
-                None
-            }
-        }
-    }
-
-    // The next call.
-    fn call(&mut self, last: Reply) -> Result<Option<Call>, AllocError> {
-        match self.at {
-            0 | 6 => Ok(Some(Call::Start)),
-            1 => self.stage(FIRST, false),
-            2 => self.stage(FIRST + 1, true),
-            3 => self.offer(&self.wrong),
-            4 => self.offer(&self.token),
-            5 => {
-                self.cutting = true;
-                Ok(Some(Call::Install))
-            }
-            7 => match last.standing {
-                Standing::Running(_, version) if version == OLD as u16 => self.offer(&self.token),
-                _ => Ok(None),
-            },
-            8 => Ok(Some(Call::Install)),
-            _ => Ok(None),
-        }
-    }
-
-    fn stage(&self, block: usize, second: bool) -> Result<Option<Call>, AllocError> {
-        let bytes = page(&self.image, second);
-        Ok(Some(Call::Stage(block, Vec::from_slice(self.heap, &bytes)?)))
-    }
-
-    fn offer(&self, token: &[u8]) -> Result<Option<Call>, AllocError> {
-        Ok(Some(Call::Offer(FIRST, Vec::from_slice(self.heap, front(token, self.tag))?)))
-    }
-
-    // What the last call was, and what came of it.
-    fn tell(&mut self, last: Reply, register: &[u8]) -> Result<(), AllocError> {
-        if let Some(Answer::Confirmed(_)) = last.answer {
-            self.confirmation = Vec::from_slice(self.heap, front(register, self.tag))?;
-        }
-        if self.at == 0 || self.at < 6 && !self.told {
-            return Ok(());
-        }
-        self.text.push_str(name(self.at))?;
-        self.tell_answer(last)?;
-        self.tell_confirmation(last)?;
-        self.text.push_str("\n")
-    }
-
-    fn tell_answer(&mut self, last: Reply) -> Result<(), AllocError> {
-        let heap = self.heap;
-        let version = version_of(last.standing);
-        let line = match last.answer {
-            None => String::from_str(heap, "not in this state")?,
-            Some(Answer::Done) => String::from_str(heap, "done")?,
-            Some(Answer::Runs(launch)) | Some(Answer::Confirmed(launch)) => {
-                let entry = launch.entry;
-                format!(in heap; "runs version {version}, entry {entry}")?
-            }
-            Some(Answer::Passes) => String::from_str(heap, "pass")?,
-            Some(Answer::Resets) => String::from_str(heap, "reset")?,
-            Some(Answer::Matches) => format!(in heap; "matches, version {version}")?,
-            Some(Answer::Refused(refusal)) => {
-                let number = refusal.number();
-                format!(in heap; "refused with {number}: {refusal}")?
-            }
-            Some(Answer::Supply(supply)) => {
-                let write = supply.write;
-                format!(in heap; "cut at write {write}; the board is cold")?
-            }
-            Some(Answer::NotLoaded(block)) => format!(in heap; "not loaded, block {block}")?,
         };
-        self.text.push_str(line.as_str())
-    }
-
-    fn tell_confirmation(&mut self, last: Reply) -> Result<(), AllocError> {
-        if let Some(Answer::Confirmed(_)) = last.answer {
-            self.text.push_str(", confirmed\n      ")?;
-            push_hex(&mut self.text, self.confirmation.as_slice())?;
+        if self.made == Some(Step::CutInstall) {
+            store.set_plan(M::cut_at(self.cut));
         }
-        Ok(())
-    }
-
-    // Whether the cut is to be planned now.
-    fn cuts(&mut self) -> bool {
-        let cutting = self.cutting;
-        self.cutting = false;
-        cutting
-    }
-}
-
-// The first `n` bytes, as far as there are so many.
-fn front(bytes: &[u8], n: usize) -> &[u8] {
-    &bytes[0..n.min(bytes.len())]
-}
-
-// The call ahead of this one, as it is printed.
-fn name(at: usize) -> &'static str {
-    match at {
-        1 | 7 => "    start: ",
-        2 => "    stage block 6: ",
-        3 => "    stage block 7: ",
-        4 => "    offer with a wrong token: ",
-        5 | 8 => "    offer: ",
-        _ => "    install: ",
-    }
-}
-
-fn version_of(standing: Standing) -> u16 {
-    match standing {
-        Standing::Cold => 0,
-        Standing::Running(_, version) => version,
-        Standing::Matched(_, _, _, version, _, _) => version,
-    }
-}
-
-impl Driver<PlainStore<'_>> for Script {
-    fn next(&mut self, last: Reply, store: &mut PlainStore<'_>, register: &[u8]) -> Option<Order> {
-        let order = self.turn(last, register);
-        if self.cuts() {
-            store.set_plan(CutPlan {
-                writes: self.cut.saturating_sub(1),
-                leaves: Residue::Repeated(0xA5),
-            });
-        }
-        order
-    }
-}
-
-impl Driver<ChipStore<'_>> for Script {
-    fn next(&mut self, last: Reply, store: &mut ChipStore<'_>, register: &[u8]) -> Option<Order> {
-        let order = self.turn(last, register);
-        if self.cuts() {
-            store.set_plan(
-                self.cut
-                    .saturating_sub(1)
-                    .saturating_mul(CHIP_WRITE)
-                    .saturating_add(CHIP_MIDDLE),
-            );
-        }
-        order
+        Some(order)
     }
 }

@@ -1,5 +1,5 @@
 -- The writes of a cycle that passes go into no guarded block.
-use Rattle.std.proofs.Common.{◌≡◌, ℕ, ◌-◌, ◌/◌, ◌%◌, ◌<◌, ◌≤◌, Bool, true, ◌&&◌, ltb, leb, ◌⊎◌, List, [], ◌∷◌, length, get_or, set, Some, refl, ◌∙◌, inl, inr, ⊎_elim, arith}
+use Rattle.std.proofs.Common.{◌≡◌, ℕ, ◌-◌, ◌/◌, ◌%◌, ◌<◌, ◌≤◌, ◌&&◌, ltb, leb, ◌⊎◌, List, [], ◌∷◌, length, get_or, set, Option, None, Some, refl, ◌∙◌, inl, inr, ⊎_elim, arith}
 use Rattle.std.specs.List.{AllByRecursion}
 use Rattle.std.proofs.lemmas.List.{length-set}
 use Rattle.std.proofs.ByRecursion.{All-set, All-get_or}
@@ -44,18 +44,18 @@ poked bs (p ∷ ps) count f l size s a =
     ))
     (λ no. poked bs ps count f l size s a.1)
 
--- one more byte, if its mark is set
-poke_if_lem : (f l : ℕ) (mark : Bool) (address byte : ℕ) (ps : List Poke) → (mark ≡ true → Free f l address) → AllByRecursion (λ (p : Poke). Free f l p.address) ps →
-    AllByRecursion (λ (p : Poke). Free f l p.address) (poke_if mark address byte ps)
-poke_if_lem f l mark address byte ps free a =
-    cond_both mark (record { address = address; byte = byte } ∷ ps) ps (AllByRecursion (λ (p : Poke). Free f l p.address)) (λ e. (free e, a)) (λ e. a)
+-- one more byte, if it has an address
+free_poke : (f l : ℕ) (at : Option ℕ) (byte : ℕ) (ps : List Poke) → ((address : ℕ) → at ≡ Some address → Free f l address) →
+    AllByRecursion (λ (p : Poke). Free f l p.address) ps → AllByRecursion (λ (p : Poke). Free f l p.address) (poke_if at byte ps)
+free_poke f l None byte ps free a = a
+free_poke f l (Some address) byte ps free a = (free address refl, a)
 
 -- no byte of a cycle that keeps W1 goes to a guarded address
 pub unguarded_pokes : (place : Place) (c : Cycle) (byte dma_byte : ℕ) → (InTcr c.pc → ⊥) → (W1 (Some place) c → ⊥) →
     AllByRecursion (λ (p : Poke). Free place.first place.len p.address) (pokes_of c byte dma_byte)
 unguarded_pokes place c byte dma_byte out kept =
-    poke_if_lem f l c.writes c.write_at byte (poke_if c.dma c.dma_at dma_byte []) (λ e g. kept (past, (c.write_at, inl (e, refl), g)))
-    (poke_if_lem f l c.dma c.dma_at dma_byte [] (λ e g. kept (past, (c.dma_at, inr (e, refl), g))) tt)
+    free_poke f l c.write_at byte (poke_if c.dma_at dma_byte []) (λ address e g. kept (past, (address, inl e, g)))
+    (free_poke f l c.dma_at dma_byte [] (λ address e g. kept (past, (address, inr e, g))) tt)
   where
     f : ℕ
     f = place.first

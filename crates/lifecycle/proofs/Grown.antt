@@ -16,8 +16,9 @@ use Rattle.law.specs.Law.{Law}
 use Rattle.lifecycle.specs.declared.journal.Call.{Call}
 use Rattle.lifecycle.specs.declared.journal.Entry.{Entry}
 use Rattle.lifecycle.specs.declared.journal.Standing.{Standing}
+use Rattle.lifecycle.specs.declared.life.Life.{Life}
 use Rattle.lifecycle.specs.Journal.{board_of, board_in, call_of, kept_of, Tells, Told, nothing, more}
-use Rattle.lifecycle.specs.Lived.{Lived, world, Bench, bench, Performed, Grows, Used, uses_register, shown_by}
+use Rattle.lifecycle.specs.Lived.{Lived, Continues, world, Bench, bench, Performed, Grows, Used, uses_register, shown_by}
 
 module _ (a : Meaning) (key : a.Key) (factory : List ℕ) where
   -- a load begins one
@@ -136,3 +137,8 @@ noted journal journal₁ journal' call scratch register answer standing board₂
 pub cleared_again : (xs ys : List ℕ) → length xs ≡ length ys → cleared xs ≡ cleared ys
 unfolding cleared
 cleared_again xs ys e = ap (λ (n : ℕ). replicate n 0) e
+
+-- One life goes on as a second one, and that as a third.
+pub continues : {S K : Type 0} {medium : S → Medium} {a : Meaning} {key : K → a.Key} {state : K → a.State} {l l' l'' : Life S K} →
+    Continues medium a key state l l' → Continues medium a key state l' l'' → Continues medium a key state l l''
+continues p q = record { lawful = λ l. q.lawful (p.lawful l); same_key = q.same_key ∙ p.same_key; same_factory = q.same_factory ∙ p.same_factory }

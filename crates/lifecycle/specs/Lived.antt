@@ -44,6 +44,12 @@ Lawful medium a key state l =
     Lived a (key l.authenticator) (vec_items l.factory) (vec_items l.journal)
     (world (board_of l.board) (medium l.store) (state l.authenticator))
 
+-- A life goes on as another one: it keeps the law, under the key and from the factory's image that it had.
+pub record Continues {S K : Type 0} (medium : S → Medium) (a : Meaning) (key : K → a.Key) (state : K → a.State) (l l' : Life S K) : Type 0 where
+  pub lawful : Lawful medium a key state l → Lawful medium a key state l'
+  pub same_key : key l'.authenticator ≡ key l.authenticator
+  pub same_factory : l'.factory ≡ l.factory
+
 -- Which board a call needs; which buffers it uses.
 abbrev pub is_cold : Board → Bool
 is_cold cold = true

@@ -4,6 +4,7 @@ ghost use Rattle.std.specs.Prelude.{◌≡◌, List, Some};
 ghost use Rattle.store.specs.Medium.{Medium};
 ghost use Rattle.board.specs.Results.{outcome, started, staged, cycled, offered, installed};
 ghost use Rattle.board.specs.Writes.{Write};
+ghost use Rattle.lifecycle.specs.Denials.{Denies};
 ghost use Rattle.lifecycle.specs.Journal.{board_of};
 
 use board::{Answer, Board, Cycled, Denied, Installed, Matched, Running, Started, Unstarted};
@@ -12,37 +13,33 @@ pub(crate) fn starts(r: Result<Started, Unstarted>) -> (Board, Answer)
     ensures { (ws : List Write) (m : Medium) → started ws r m ≡ outcome ws result.1 (board_of result.0) m }
 {
     match r {
-        Ok(begun) => {
-            let Started {
+        Ok(
+            Started {
                 running,
                 launch,
                 confirmed,
-            } = begun;
-            if confirmed {
-                (Board::Running(running), Answer::Confirmed(launch))
+            },
+        ) => {
+            let answer = if confirmed {
+                Answer::Confirmed(launch)
             } else {
-                (Board::Running(running), Answer::Runs(launch))
-            }
+                Answer::Runs(launch)
+            };
+            (running.into(), answer)
         }
-        Err(unstarted) => match unstarted {
-            Unstarted::Refused(cold, refusal) => (Board::Cold(cold), Answer::Refused(refusal)),
-            Unstarted::Supply(cold, supply) => (Board::Cold(cold), Answer::Supply(supply)),
-            Unstarted::NotLoaded(cold, block) => (Board::Cold(cold), Answer::NotLoaded(block)),
-        },
+        Err(Unstarted::Refused(cold, refusal)) => (cold.into(), Answer::Refused(refusal)),
+        Err(Unstarted::Supply(cold, supply)) => (cold.into(), Answer::Supply(supply)),
+        Err(Unstarted::NotLoaded(cold, block)) => (cold.into(), Answer::NotLoaded(block)),
     }
 }
 
+// One function for each call, since what it returns and answers is its own; a denial is taken apart in `denies` for all.
 pub(crate) fn stages(r: Result<Running, Denied<Running>>) -> (Board, Answer)
     ensures { (ws : List Write) (m : Medium) → staged ws r m ≡ outcome ws result.1 (board_of result.0) m }
 {
     match r {
-        Ok(running) => (Board::Running(running), Answer::Done),
-        Err(denied) => match denied {
-            Denied::Refused(running, refusal) => {
-                (Board::Running(running), Answer::Refused(refusal))
-            }
-            Denied::Supply(cold, supply) => (Board::Cold(cold), Answer::Supply(supply)),
-        },
+        Ok(running) => (running.into(), Answer::Done),
+        Err(denied) => denies(denied),
     }
 }
 
@@ -50,16 +47,9 @@ pub(crate) fn cycles(r: Result<Cycled, Denied<Running>>) -> (Board, Answer)
     ensures { (ws : List Write) (m : Medium) → cycled ws r m ≡ outcome ws result.1 (board_of result.0) m }
 {
     match r {
-        Ok(verdict) => match verdict {
-            Cycled::Passed(running) => (Board::Running(running), Answer::Passes),
-            Cycled::Reset(cold) => (Board::Cold(cold), Answer::Resets),
-        },
-        Err(denied) => match denied {
-            Denied::Refused(running, refusal) => {
-                (Board::Running(running), Answer::Refused(refusal))
-            }
-            Denied::Supply(cold, supply) => (Board::Cold(cold), Answer::Supply(supply)),
-        },
+        Ok(Cycled::Passed(running)) => (running.into(), Answer::Passes),
+        Ok(Cycled::Reset(cold)) => (cold.into(), Answer::Resets),
+        Err(denied) => denies(denied),
     }
 }
 
@@ -67,13 +57,8 @@ pub(crate) fn offers(r: Result<Matched, Denied<Running>>) -> (Board, Answer)
     ensures { (ws : List Write) (m : Medium) → offered ws r m ≡ outcome ws result.1 (board_of result.0) m }
 {
     match r {
-        Ok(matched) => (Board::Matched(matched), Answer::Matches),
-        Err(denied) => match denied {
-            Denied::Refused(running, refusal) => {
-                (Board::Running(running), Answer::Refused(refusal))
-            }
-            Denied::Supply(cold, supply) => (Board::Cold(cold), Answer::Supply(supply)),
-        },
+        Ok(matched) => (matched.into(), Answer::Matches),
+        Err(denied) => denies(denied),
     }
 }
 
@@ -81,16 +66,18 @@ pub(crate) fn installs(r: Result<Installed, Denied<Matched>>) -> (Board, Answer)
     ensures { (ws : List Write) (m : Medium) → installed ws r m ≡ outcome ws result.1 (board_of result.0) m }
 {
     match r {
-        Ok(ended) => {
-            let Installed { running, launch } = ended;
-            (Board::Running(running), Answer::Confirmed(launch))
-        }
-        Err(denied) => match denied {
-            Denied::Refused(matched, refusal) => {
-                (Board::Matched(matched), Answer::Refused(refusal))
-            }
-            Denied::Supply(cold, supply) => (Board::Cold(cold), Answer::Supply(supply)),
-        },
+        Ok(Installed { running, launch }) => (running.into(), Answer::Confirmed(launch)),
+        Err(denied) => denies(denied),
+    }
+}
+
+/// A call that was denied, as a board of any state and an answer.
+fn denies<B: Into<Board>>(denied: Denied<B>) -> (Board, Answer)
+    ensures { Denies B.converts denied result.0 result.1 }
+{
+    match denied {
+        Denied::Refused(board, refusal) => (board.into(), Answer::Refused(refusal)),
+        Denied::Supply(cold, supply) => (cold.into(), Answer::Supply(supply)),
     }
 }
 

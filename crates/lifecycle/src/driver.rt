@@ -2,7 +2,7 @@
 
 ghost use Rattle.std.specs.Prelude.{◌≡◌};
 ghost use Rattle.board.specs.Answers.{cleared};
-ghost use Rattle.lifecycle.specs.Lived.{Lawful, Lasts};
+ghost use Rattle.lifecycle.specs.Lived.{Continues, Lasts};
 
 use crate::journal::{Call, Standing};
 use crate::life::{Life, Unbegun};
@@ -43,9 +43,8 @@ impl<S: Store, K: Authenticator> Life<S, K> {
         answer: Option<Answer>,
         register: &[u8],
     ) -> Option<Order>
-        ensures lawful { Lawful S.medium K.means K.key K.state self.old → Lawful S.medium K.means K.key K.state self.new }
-        ensures key { self.new.authenticator ≡ self.old.authenticator }
-        ensures factory { self.new.factory ≡ self.old.factory }
+        ensures life { Continues S.medium K.means K.key K.state self.old self.new }
+        ensures authenticator { self.new.authenticator ≡ self.old.authenticator }
     {
         let reply = Reply {
             answer,
@@ -54,6 +53,7 @@ impl<S: Store, K: Authenticator> Life<S, K> {
         driver.next(reply, &mut self.store, register)
     }
 
+    // Lent one by one, as the caller has them: they are taken apart again for each call.
     /// Makes each call that the driver names, until it names none or there is no memory for the journal. Both buffers are
     /// zeros then.
     pub fn run<D: Driver<S>>(
@@ -62,15 +62,13 @@ impl<S: Store, K: Authenticator> Life<S, K> {
         scratch: &mut [u8],
         register: &mut [u8],
     ) -> Result<(), AllocError>
-        ensures lawful { Lawful S.medium K.means K.key K.state self.old → Lawful S.medium K.means K.key K.state self.new }
-        ensures key { K.key self.new.authenticator ≡ K.key self.old.authenticator }
-        ensures factory { self.new.factory ≡ self.old.factory }
+        ensures life { Continues S.medium K.means K.key K.state self.old self.new }
         ensures scratch { scratch.new ≡ cleared scratch.old }
         ensures register { register.new ≡ cleared register.old }
     {
         let ended = self.turns(driver, scratch, register);
-        clear(scratch);
-        clear(register);
+        scratch.fill(0);
+        register.fill(0);
         ended
     }
 
@@ -80,9 +78,7 @@ impl<S: Store, K: Authenticator> Life<S, K> {
         scratch: &mut [u8],
         register: &mut [u8],
     ) -> Result<(), AllocError>
-        ensures lawful { Lawful S.medium K.means K.key K.state self.old → Lawful S.medium K.means K.key K.state self.new }
-        ensures key { K.key self.new.authenticator ≡ K.key self.old.authenticator }
-        ensures factory { self.new.factory ≡ self.old.factory }
+        ensures { Continues S.medium K.means K.key K.state self.old self.new }
     {
         let mut answer = None;
         for _ in 0..u64::MAX {
@@ -113,10 +109,4 @@ pub fn live<S: Store, K: Authenticator, D: Driver<S>>(
     let mut life = Life::begin(heap, store, authenticator, factory, scratch)?;
     let ended = life.run(driver, scratch, register);
     Ok((life, ended))
-}
-
-fn clear(buffer: &mut [u8])
-    ensures { buffer.new ≡ cleared buffer.old }
-{
-    buffer.fill(0);
 }

@@ -29,6 +29,7 @@ pub enum Standing {
     Cold,
     /// Place and version of the image that runs.
     Running(Place, u16),
+    // In the order of a matched board's fields, of which a board shows each by a function.
     /// The same, and then place, version, nonce and vectors of the one that was offered.
     Matched(Place, u16, Place, u16, [u8; 8], [u64; 4]),
 }
@@ -43,14 +44,14 @@ pub struct Entry {
     pub answer: Answer,
     pub standing: Standing,
     /// The register after the call, where it has 32 bytes; else zeros.
+    // No option: a register that was not lent and one that the call zeroed tell the same, that nothing is confirmed.
     pub shown: [u8; 32],
 }
 
-impl Standing {
-    /// What `board` knows.
-    pub fn of(board: &Board) -> Standing
-        ensures { board_in result ≡ board_of board.now }
-    {
+impl From<&Board> for Standing {
+    ghost from_gives = { λ board standing. board_in standing ≡ board_of board.now };
+
+    fn from(board: &Board) -> Standing {
         match board {
             Board::Cold(_) => Standing::Cold,
             Board::Running(running) => Standing::Running(running.place(), running.version()),
@@ -66,6 +67,15 @@ impl Standing {
                 )
             }
         }
+    }
+}
+
+impl Standing {
+    /// What `board` knows.
+    pub fn of(board: &Board) -> Standing
+        ensures { board_in result ≡ board_of board.now }
+    {
+        board.into()
     }
 }
 
@@ -85,9 +95,5 @@ impl Call {
 fn kept(register: &[u8]) -> [u8; 32]
     ensures { result ≡ kept_of register.now }
 {
-    let mut shown = [0; 32];
-    if register.len() == 32 {
-        shown.copy_from_slice(register);
-    }
-    shown
+    register.try_into().unwrap_or([0; 32])
 }

@@ -3,7 +3,7 @@
 ghost use Rattle.std.specs.Prelude.{◌≡◌};
 ghost use Rattle.store.specs.Calls.{Reading};
 ghost use Rattle.lifecycle.specs.Journal.{board_of, board_in};
-ghost use Rattle.lifecycle.specs.Lived.{Lawful, Begins, Lives};
+ghost use Rattle.lifecycle.specs.Lived.{Continues, Begins, Lives};
 
 use crate::journal::{Call, Entry, Standing};
 use crate::steps::step;
@@ -14,6 +14,7 @@ use std::mem::replace;
 use store::{Fault, Planned, Store};
 
 /// A board's working life. Nothing but its own calls touches what it owns.
+// The law stands in contracts, and in no ghost field: that may hold a fact of one proof alone, and a life has a history.
 pub struct Life<S: Store, K: Authenticator> {
     factory: Vec<u8>,
     pub(crate) board: Board,
@@ -74,10 +75,8 @@ impl<S: Store, K: Authenticator> Life<S, K> {
         scratch: &mut [u8],
         register: &mut [u8],
     ) -> Result<Option<Answer>, AllocError>
-        ensures lawful { Lawful S.medium K.means K.key K.state self.old → Lawful S.medium K.means K.key K.state self.new }
+        ensures life { Continues S.medium K.means K.key K.state self.old self.new }
         ensures made { Lives S.medium K.means K.key K.state self.old call scratch.old register.old result self.new scratch.new register.new }
-        ensures key { K.key self.new.authenticator ≡ K.key self.old.authenticator }
-        ensures factory { self.new.factory ≡ self.old.factory }
     {
         self.journal.reserve(1)?;
         let lent = (scratch.len(), register.len());
@@ -147,7 +146,7 @@ impl<S: Store, K: Authenticator> Life<S, K> {
 impl<S: Planned, K: Authenticator> Life<S, K> {
     /// Tells the store where its supply fails.
     pub fn set_plan(&mut self, plan: S::Plan)
-        ensures lawful { Lawful S.Store.medium K.Authenticator.means K.Authenticator.key K.Authenticator.state self.old → Lawful S.Store.medium K.Authenticator.means K.Authenticator.key K.Authenticator.state self.new }
+        ensures life { Continues S.Store.medium K.Authenticator.means K.Authenticator.key K.Authenticator.state self.old self.new }
         ensures medium { S.Store.medium self.new.store ≡ S.Store.medium self.old.store }
         ensures rest { (self.new.board ≡ self.old.board) × (self.new.authenticator ≡ self.old.authenticator) × (self.new.factory ≡ self.old.factory) × (self.new.journal ≡ self.old.journal) }
     {

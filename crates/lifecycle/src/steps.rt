@@ -22,39 +22,28 @@ pub(crate) fn step<S: Store, K: Authenticator>(
     ensures made { Performed K.means (K.key authenticator.old) (bench (board_of board) (S.medium store.old) (K.state authenticator.old) scratch.old register.old) call.now result.1 (bench (board_of result.0) (S.medium store.new) (K.state authenticator.new) scratch.new register.new) }
     ensures key { K.key authenticator.new ≡ K.key authenticator.old }
 {
-    match call {
-        Call::Start => match board {
-            Board::Cold(cold) => {
-                made(starts(cold.start(store, authenticator, scratch, register)))
-            }
-            other => (other, None),
-        },
-        Call::Stage(block, bytes) => match board {
-            Board::Running(running) => made(stages(running.stage(store, *block, bytes))),
-            other => (other, None),
-        },
-        Call::Cycle(signals, byte, dma_byte) => match board {
-            Board::Running(running) => {
-                made(cycles(running.cycle(store, *signals, *byte, *dma_byte, scratch)))
-            }
-            other => (other, None),
-        },
-        Call::Offer(first, token) => match board {
-            Board::Running(running) => {
-                made(offers(running.offer(store, authenticator, *first, token, scratch)))
-            }
-            other => (other, None),
-        },
-        Call::Leave => match board {
-            Board::Matched(matched) => (Board::Running(matched.leave()), Some(Answer::Done)),
-            other => (other, None),
-        },
-        Call::Install => match board {
-            Board::Matched(matched) => {
-                made(installs(matched.install(store, authenticator, scratch, register)))
-            }
-            other => (other, None),
-        },
-        Call::Reset => (Board::Cold(board.reset()), Some(Answer::Done)),
+    match (call, board) {
+        (Call::Start, Board::Cold(cold)) => {
+            made(starts(cold.start(store, authenticator, scratch, register)))
+        }
+        (Call::Stage(block, bytes), Board::Running(running)) => {
+            made(stages(running.stage(store, *block, bytes)))
+        }
+        (Call::Cycle(signals, byte, dma_byte), Board::Running(running)) => {
+            made(cycles(running.cycle(store, *signals, *byte, *dma_byte, scratch)))
+        }
+        (Call::Offer(first, token), Board::Running(running)) => {
+            made(offers(running.offer(store, authenticator, *first, token, scratch)))
+        }
+        (Call::Leave, Board::Matched(matched)) => (
+            Board::Running(matched.leave()),
+            Some(Answer::Done),
+        ),
+        (Call::Install, Board::Matched(matched)) => {
+            made(installs(matched.install(store, authenticator, scratch, register)))
+        }
+        (Call::Reset, board) => (Board::Cold(board.reset()), Some(Answer::Done)),
+        // The call does not fit the board.
+        (_, board) => (board, None),
     }
 }

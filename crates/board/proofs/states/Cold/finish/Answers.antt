@@ -3,4 +3,4 @@ use Rattle.board.proofs.states.Cold.finish.Goals as goal
 
 pub returns-in-None : goal.returns-in-None
 returns-in-None g c =
-    record { key = refl; call = ([], record { outcome = search rules; register_left = c.requires.1.1.0; state_left = refl }) }
+    record { key = refl; call = ([], record { outcome = search rules; register_left = c.requires.0; state_left = refl }) }

@@ -8,7 +8,7 @@ pub finish-requires : goal.finish-requires
 finish-requires g c =
     let m = g.S.Store.medium c.args.store.now in
     let up = awake m _ c.wake.ensures c.count.ensures.whole (omega arith, omega arith) in
-    (omega arith, (omega arith, (c.clear.ensures ∙ cleared_same _ _ (omega arith), (up.0, up.1))))
+    (c.clear.ensures ∙ cleared_same _ _ (omega arith), (up.0, omega (arith, up.1)))
 
 pub returns-in-Finished : goal.returns-in-Finished
 returns-in-Finished g c =
@@ -20,7 +20,7 @@ returns-in-Finished g c =
       call = (
         [],
         finished_start A.means (A.key c.args.authenticator.now) m d c.args.scratch.now c.args.register.now (A.state c.args.authenticator.now)
-            c.requires.0 c.requires.1 (omega arith, omega arith) c.wake.ensures (started [] c.run.result d) _ _ c.in-Finished.ensures c.run.ensures c.clear.ensures refl,
+            (omega arith) (omega arith) (omega arith, omega arith) c.wake.ensures (started [] c.run.result d) _ _ c.in-Finished.ensures c.run.ensures c.clear.ensures refl,
       );
     }
 
@@ -36,6 +36,6 @@ returns-in-Unfinished g c =
       call = (
         done.0,
         unfinished_start A.means (A.key c.args.authenticator.now) m d c.args.scratch.now c.args.register.now (A.state c.args.authenticator.now)
-            c.requires.0 c.requires.1 (omega arith, omega arith) c.wake.ensures (started done.0 c.finish.result e) c.clear.new.buffer _ _ (omega arith) c.in-Unfinished.ensures done.1,
+            (omega arith) (omega arith) (omega arith, omega arith) c.wake.ensures (started done.0 c.finish.result e) c.clear.new.buffer _ _ (omega arith) c.in-Unfinished.ensures done.1,
       );
     }

@@ -11,8 +11,8 @@ returns-in-Ok g c =
     record {
       key = c.confirm.ensures.key;
       call = finished A.means (A.key c.args.authenticator.now) m e c.args.register.now _ (A.state c.args.authenticator.now) _
-          c.args.self c.requires.1.1.1.1 c.launch.result (bytes_of c.vectors-vectors.result) c.nonce-nonce.result
-          c.launch.ensures c.vectors-vectors.ensures c.nonce-nonce.ensures c.in-Ok.ensures c.confirm.ensures.register c.confirm.ensures.state;
+          c.args.self c.requires.1.1 c.into.result (bytes_of c.vectors-vectors.result) c.nonce-nonce.result
+          c.into.ensures c.vectors-vectors.ensures c.nonce-nonce.ensures c.in-Ok.ensures c.confirm.ensures.register c.confirm.ensures.state;
     }
 
 pub returns-in-Err : goal.returns-in-Err
@@ -23,6 +23,6 @@ returns-in-Err g c =
     record {
       key = refl;
       call = unfinished A.means (A.key c.args.authenticator.now) m e c.args.register.now _ (A.state c.args.authenticator.now) _
-          c.args.self c.requires.1.1.1.1 c.end.result c.in-Err.supply (bytes_of c.vectors-vectors.result)
-          c.vectors-vectors.ensures c.in-Err.ensures c.requires.1.1.0 refl;
+          c.args.self c.requires.1.1 c.end.result c.in-Err.supply (bytes_of c.vectors-vectors.result)
+          c.vectors-vectors.ensures c.in-Err.ensures c.requires.0 refl;
     }

@@ -3,5 +3,6 @@ use Rattle.board.proofs.states.Running.take.Goals as goal
 
 pub returns : goal.returns
 returns g c =
-    taken c.args.self (g.S.Store.medium c.args.store.now) c.args.place c.args.header c.vectors-vectors.result
-    c.requires.1.0.1 c.requires.1.1.0 c.requires.1.1.1.0 c.requires.1.1.1.1 c.vectors-vectors.ensures
+    let image = c.args.image in
+    taken c.args.self (g.S.Store.medium image.reader.store.now) image.place c.args.header c.vectors-vectors.result
+    image.reader.readable.1 image.lies c.requires.0 c.requires.1 c.vectors-vectors.ensures

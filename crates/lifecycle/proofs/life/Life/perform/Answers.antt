@@ -10,11 +10,13 @@ returns g c =
     let p = moved _ _ _ _ _ _ _ _ _ _ _ _ _ _ _ _ _ c.replace-board.ensures.value c.replace.ensures.after c.in-Some.is c.step-board.ensures.made in
     let n = noted _ _ _ _ _ _ _ _ _ _ _ _ _ _ c.reserve.ensures.items refl refl c.of-standing.ensures c.replace.ensures.after c.shown-shown.ensures c.push_reserved.ensures.items in
     record {
-      lawful = λ l. keeps_law _ _ _ _ _ _
-          (bench (board_of c.args.self.now.board) (g.S.Store.medium c.args.self.now.store) (g.K.Authenticator.state c.args.self.now.authenticator) c.args.scratch.now c.args.register.now)
-          (bench (board_of c.replace.new.dest) (g.S.Store.medium c.step-board.new.store) (g.K.Authenticator.state c.step-board.new.authenticator) c.step-board.new.scratch c.step-board.new.register)
-          c.args.call (Some c.in-Some.answer) (law _ _) c.step-board.ensures.key p n l;
+      life = record {
+        lawful = λ l. keeps_law _ _ _ _ _ _
+            (bench (board_of c.args.self.now.board) (g.S.Store.medium c.args.self.now.store) (g.K.Authenticator.state c.args.self.now.authenticator) c.args.scratch.now c.args.register.now)
+            (bench (board_of c.replace.new.dest) (g.S.Store.medium c.step-board.new.store) (g.K.Authenticator.state c.step-board.new.authenticator) c.step-board.new.scratch c.step-board.new.register)
+            c.args.call (Some c.in-Some.answer) (law _ _) c.step-board.ensures.key p n l;
+        same_key = c.step-board.ensures.key;
+        same_factory = refl;
+      };
       made = (p, n);
-      key = c.step-board.ensures.key;
-      factory = refl;
     }

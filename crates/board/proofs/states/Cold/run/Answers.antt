@@ -3,16 +3,16 @@ use Rattle.board.specs.declared.answers.Answer.TheVariants.{Runs}
 use Rattle.board.specs.declared.answers.Launch.{Launch}
 use Rattle.board.specs.States.{running}
 use Rattle.board.specs.Results.{outcome}
-use Rattle.board.proofs.states.Cold.run_image.Goals as goal
+use Rattle.board.proofs.states.Cold.run.Goals as goal
 
 pub returns : goal.returns
 returns g c =
-    let m = g.S.Store.medium c.args.store.now in
+    let m = g.S.Store.medium c.args.reader.store.now in
     inr (inr (
       c.vectors_stand.ensures.0 c.if-not-vectors_stand.false,
       (
-        c.args.running,
-        c.requires.1.1.1,
-        ap (λ (l : Launch). outcome [] (Runs l) (running c.args.running) m) c.launch-launch.ensures,
+        c.in-Some.running,
+        c.in-Some.ensures,
+        ap (λ (l : Launch). outcome [] (Runs l) (running c.in-Some.running) m) c.into-launch.ensures,
       ),
     ))
