@@ -7,6 +7,7 @@ use Rattle.std.specs.Option.{SomeIff}
 use Rattle.chip.specs.Chip.{rises, programmed, operations, worked, chip_cutting}
 use Rattle.store.specs.Bank.{Ending}
 use Rattle.store.specs.Memory.{filled}
+use Rattle.store.proofs.Residues.{length-filled}
 
 -- one byte more is programmed
 programmed_suc : (i : ℕ) (old new : List ℕ) → i < length old → i < length new
@@ -26,6 +27,20 @@ programmed-none old new = refl
 pub programmed-more : (part old new : List ℕ) (count i : ℕ) → i < count → i < length old → i < length new → part ≡ programmed i old new
     → set part i (bit_and (get_or part i 0) (get_or (take count new) i 0)) ≡ programmed (i + 1) old new
 programmed-more part old new count i f h k e = rw (e, add-one, get_or-take count new i 0 f) (programmed_suc i old new h k)
+
+-- programming keeps the length
+length-programmed : (k : ℕ) (old new : List ℕ) → length (programmed k old new) ≡ length old
+unfolding programmed
+length-programmed zero old new = refl
+length-programmed (suc k) [] new = refl
+length-programmed (suc k) (o ∷ old) [] = refl
+length-programmed (suc k) (o ∷ old) (n ∷ new) = ap suc (length-programmed k old new)
+
+-- and so do all operations
+length-worked : (erases : Bool) (k : ℕ) (old new : List ℕ) → length old ≡ 512 → length (worked erases k old new) ≡ 512
+length-worked true zero old new e = e
+length-worked true (suc k) old new e = length-programmed k (filled 255) new ∙ length-filled 255
+length-worked false k old new e = length-programmed k old new ∙ e
 
 -- no bit rises: not in the first byte, and not after it
 tested : (same rest : Bool) → not same || rest ≡ false → (same ≡ true) × (rest ≡ false)
@@ -83,3 +98,7 @@ ends plan needed erases old new left (Some rest) e n o long fits enough is =
     let total : needed ≡ operations (rises old new) = n ∙ ap operations e in
     let all : min plan needed ≡ operations erases = omega arith in
     ((omega arith, enough.1 ∙ ap (λ k. plan - k) total), is ∙ ap (λ k. worked erases k old new) all ∙ worked_whole erases old new o long fits e)
+
+-- what a cut leaves is a block
+pub chip_sized : (plan : ℕ) (old new torn : List ℕ) → length old ≡ 512 → length new ≡ 512 → chip_cutting.Cuts plan old new torn → length torn ≡ 512
+chip_sized plan old new torn o n q = ap length q.1 ∙ length-worked (rises old new) plan old new o

@@ -1,5 +1,5 @@
 -- What a store in a memory does by its plan is what a store may do, for plans of any kind.
-use Rattle.std.proofs.Common.{◌≡◌, ℕ, Bool, true, false, List, length, Some, None, Ok, Err, Option, Result, is_none, true≢false, sym, refl, ap, ◌∙◌, inl, inr}
+use Rattle.std.proofs.Common.{◌≡◌, ℕ, Bool, true, false, List, length, Some, None, Ok, Err, Option, Result, is_none, true≢false, sym, refl, ap, ◌∙◌, inl, inr, ⊎_elim}
 use Rattle.store.specs.declared.fault.Cause.TheVariants.{Dark}
 use Rattle.store.specs.declared.fault.Fault.{Fault}
 use Rattle.store.specs.Bank.{Bank, meaning, Cutting, Ending, Spares, Tears, Storing, Tests}
@@ -7,7 +7,7 @@ use Rattle.store.specs.Calls.{Writing}
 use Rattle.store.specs.Faults.{arisen}
 use Rattle.store.specs.Medium.{after}
 use Rattle.store.specs.Memory.{block_at, laid, remainder, lowest}
-use Rattle.store.proofs.Blocks.{remainder_laid, lowest_laid}
+use Rattle.store.proofs.Blocks.{length-block, remainder_laid, lowest_laid}
 use Rattle.store.proofs.Lowest.{ready, refused}
 
 -- a plan that is left spares the write
@@ -45,15 +45,15 @@ module _ {Plan : Type 0} (k : Cutting Plan) (s : Bank Plan) (b : ℕ) (x : List 
         is ∙ lowest_laid s.memory b tests.0.1 y long s.live live
 
     -- the bytes past the last whole block are never written
-    same_remainder : remainder t.memory ≡ remainder s.memory
-    same_remainder = ap remainder left ∙ remainder_laid s.memory b tests.0.1 y long
+    remainder_kept : remainder t.memory ≡ remainder s.memory
+    remainder_kept = ap remainder left ∙ remainder_laid s.memory b tests.0.1 y long
 
     -- a write that is done
     pub owed-done : y ≡ x → Spares k s.plan (block_at s.memory b) x t.plan → t.live ≡ true → Owed k s b x (Ok tt) t
     owed-done is spares live = record {
       written = (ready s.memory s.live b (length x) tests, laid_over true live ∙ ap (λ z. after (meaning s) b z true) is);
       own = (tests, left ∙ ap (laid s.memory b) is, spares, live);
-      remainder = same_remainder;
+      remainder = remainder_kept;
     }
 
     -- a write that is cut
@@ -61,5 +61,45 @@ module _ {Plan : Type 0} (k : Cutting Plan) (s : Bank Plan) (b : ℕ) (x : List 
     owed-cut tears live plan = record {
       written = inr (ready s.memory s.live b (length x) tests, refl, (y, long, laid_over false live));
       own = inr (tests, refl, (y, tears, left), live, plan);
-      remainder = same_remainder;
+      remainder = remainder_kept;
     }
+
+-- what `Storing` says is enough: where each cut leaves 512 bytes, it has the store's meaning and the remainder in it
+module _ {Plan : Type 0} (k : Cutting Plan)
+    (sized : (plan : Plan) (old new torn : List ℕ) → length old ≡ 512 → length new ≡ 512 → k.Cuts plan old new torn → length torn ≡ 512) where
+  -- what a cut leaves is a block
+  long : (plan : Option Plan) (old new torn : List ℕ) → length old ≡ 512 → length new ≡ 512 → Tears k plan old new torn → length torn ≡ 512
+  long None old new torn o n q = absurd q
+  long (Some plan) old new torn o n q = sized plan old new torn o n q
+
+  module _ (s t : Bank Plan) (b : ℕ) (x : List ℕ) where
+    -- in a store, too
+    torn_long : (torn : List ℕ) → Tests s b x (Ok tt) → Tears k s.plan (block_at s.memory b) x torn → length torn ≡ 512
+    torn_long torn q tears = long s.plan (block_at s.memory b) x torn (length-block s.memory b q.0.1) q.0.0 tears
+
+    -- what it answers and leaves is what a store may answer and leave
+    pub writing : (r : Result Unit Fault) → Storing k s b x r t → Writing (meaning s) b x r (meaning t)
+    writing (Ok u) q = (ready s.memory s.live b (length x) q.0, laid_over k s b x t x q.0 q.0.0.0 q.1 true q.3)
+    writing (Err f) q =
+        ⊎_elim
+        (λ refusal. inl (refused s.memory s.live b (length x) f refusal.0, ap meaning refusal.1))
+        (λ dark.
+        let torn = dark.2.0 in
+        let n : length torn ≡ 512 = torn_long torn dark.0 dark.2.1 in
+        inr (
+          ready s.memory s.live b (length x) dark.0,
+          dark.1,
+          (torn, n, laid_over k s b x t torn dark.0 n dark.2.2 false dark.3),
+        ))
+        q
+
+    -- the bytes past the last whole block are never written
+    pub same_remainder : (r : Result Unit Fault) → Storing k s b x r t → remainder t.memory ≡ remainder s.memory
+    same_remainder (Ok u) q = ap remainder q.1 ∙ remainder_laid s.memory b q.0.0.1 x q.0.0.0
+    same_remainder (Err f) q =
+        ⊎_elim
+        (λ refusal. ap (λ u. remainder u.memory) refusal.1)
+        (λ dark.
+        ap remainder dark.2.2
+        ∙ remainder_laid s.memory b dark.0.0.1 dark.2.0 (torn_long dark.2.0 dark.0 dark.2.1))
+        q

@@ -1,6 +1,7 @@
 -- A memory and its blocks, and what is left of both where one block is laid over.
 use Rattle.std.proofs.Common.{◌≡◌, ℕ, ◌+◌, ◌*◌, ◌/◌, ◌<◌, ◌≤◌, Bool, ◌≢◌, List, [], ◌++◌, length, get_or, take, drop, set, sym, ap, ◌∙◌, ⊎_elim, arith}
-use Rattle.std.proofs.lemmas.List.{length-set, length-take, length-take-le, length-drop, length-append, get_or-set_same, get_or-set_other, same_lists, take_at, drop_at, drop-take}
+use borrow.Rule.Slice.PartMut.{put_mid}
+use Rattle.std.proofs.lemmas.List.{length-set, length-take, length-take-le, length-drop, length-append, get_or-set_same, get_or-set_other, same_lists, take_at, drop_at, drop-take, take-append-drop}
 use Rattle.std.proofs.lemmas.List.FromFn.{length-map-range_with_len, get_or-map-range_with_len}
 use Rattle.std.proofs.lemmas.Slice.{take-put_mid_below, drop-put_mid}
 use Rattle.std.proofs.lemmas.Bool.{cases_eq, cases_lt}
@@ -27,7 +28,16 @@ whole-blocks memory b h =
     let lt : b < length memory / 512 = omega (arith, length-blocks memory) in
     ap length (held_block memory b [] lt) ∙ length-block memory b lt
 
+-- what a write to a part of the memory leaves, as the check has it
+pub put_laid : (memory : List ℕ) (b n : ℕ) (x y : List ℕ) → n ≡ 512 → x ≡ y → put_mid (512 * b) n memory x ≡ laid memory b y
+put_laid memory b n x y e q = rw (e, q)
+
 module _ (memory : List ℕ) (b : ℕ) (lt : b < length memory / 512) where
+  -- a block laid over itself changes nothing
+  pub laid_itself : laid memory b (block_at memory b) ≡ memory
+  laid_itself =
+      ap (λ r. take (512 * b) memory ++ r) (take-append-drop 512 (drop (512 * b) memory)) ∙ take-append-drop (512 * b) memory
+
   module _ (x : List ℕ) (long : length x ≡ 512) where
     -- the memory stays as long as it was
     pub length-laid : length (laid memory b x) ≡ length memory

@@ -1,4 +1,5 @@
 pub mod Bank
 pub mod Blocks
 pub mod Lowest
+pub mod Residues
 pub mod Windows

@@ -27,7 +27,6 @@ pub fn read_from(memory: &[u8], live: bool, block: usize, buffer: &mut [u8]) -> 
     Ok(())
 }
 
-// Beside `lay`, and not one of both: of a block that is lent in place nothing is known after the loan.
 /// What a block holds.
 fn held(memory: &[u8], block: usize) -> &[u8; BLOCK_LEN]
     requires { block < length memory.now / 512 }
@@ -35,15 +34,6 @@ fn held(memory: &[u8], block: usize) -> &[u8; BLOCK_LEN]
 {
     let from = BLOCK_LEN * block;
     memory[from..from + BLOCK_LEN].as_array().unwrap()
-}
-
-/// Copies `bytes` into a block.
-fn lay(memory: &mut [u8], block: usize, bytes: &[u8; BLOCK_LEN])
-    requires { block < length memory.old / 512 }
-    ensures { memory.new ≡ laid memory.old block bytes.now }
-{
-    let from = BLOCK_LEN * block;
-    memory[from..from + BLOCK_LEN].copy_from_slice(bytes);
 }
 
 /// How blocks are written in a memory of one kind, and how a plan cuts a write.
@@ -85,6 +75,23 @@ fn write_in<M: Make>(
         return Err(Cause::Dark);
     }
     Ok(())
+}
+
+// In place: to copy the block out and back would cost more than the write.
+/// The same over the part of a memory that a block is.
+fn write_part<M: Make>(
+    plan: &mut Option<M::Plan>,
+    part: &mut [u8],
+    bytes: &[u8; BLOCK_LEN],
+) -> Result<(), Cause>
+    requires { length part.old ≡ 512 }
+    ensures whole { length part.new ≡ 512 }
+    ensures written { MatchResult result (λ _. Spares M.cutting plan.old part.old bytes.now plan.new × (part.new ≡ bytes.now)) (λ e. (e ≡ Dark) × Tears M.cutting plan.old part.old bytes.now part.new × (plan.new ≡ None)) }
+{
+    match part.as_mut_array() {
+        Some(block) => write_in::<M>(plan, block, bytes),
+        None => unreachable(),
+    }
 }
 
 /// A store in borrowed memory. Bytes past its last whole block are not its own.
@@ -146,10 +153,9 @@ impl<M: Make> Store for MemoryStore<'_, M> {
     {
         admit(bytes.len(), block, self.memory.len() / BLOCK_LEN, self.live)?;
         let bytes = bytes.as_array().unwrap();
-        let memory = &mut *self.memory;
-        let mut place = *held(memory, block);
-        let done = write_in::<M>(&mut self.plan, &mut place, bytes);
-        lay(memory, block, &place);
+        let from = BLOCK_LEN * block;
+        let part = &mut self.memory[from..from + BLOCK_LEN];
+        let done = write_part::<M>(&mut self.plan, part, bytes);
         if let Err(cause) = done {
             self.live = false;
             return Err(Fault::new(cause, block));
