@@ -125,7 +125,7 @@ module _ (bs : List (List ℕ)) (w : Whole bs) (f l : ℕ) (h : 512 * f + l ≤ 
         ∙ sym (fill_by_all byte (nonce_of (get_or bs f [])) 8 0 d (λ k lt. get_or-take 8 (drop 4 (get_or bs f [])) k 0 lt ∙ get_or-drop 4 (get_or bs f []) k 0))
 
     -- bytes that were read one by one are the vectors
-    image_vectors : (bytes : List ℕ) → length bytes ≡ 32
+    pub image_vectors : (bytes : List ℕ) → length bytes ≡ 32
         → ((k : ℕ) → k < 32 → get_or bytes k 0 ≡ get_or (get_or bs (f + (l - 32 + k) / 512) []) ((l - 32 + k) % 512) 0)
         → bytes ≡ vectors_of (image_at bs f l)
     image_vectors bytes many each =

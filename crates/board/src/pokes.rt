@@ -28,7 +28,8 @@ pub(crate) fn poke_all<S: Store>(
 }
 
 // Puts a byte at an address, if there is one and it lies in a block, as write number `write`. Answers the number
-// of the next write.
+// of the next write. Inlined, since most cycles have no address and are not to pay for a call.
+#[inline(always)]
 fn poke<S: Store>(
     store: &mut S,
     write: u8,
