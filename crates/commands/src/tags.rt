@@ -51,7 +51,7 @@ impl Keyed for Cmac {
 // This and `check_confirmation` share the match over the kinds alone: what they take and answer differs.
 // That the key has the right length is asked for down to where it is tested: a file's bytes have any.
 /// The token of an image, then zeros, under a key of the right length.
-pub fn make_token(kind: Kind, key: &[u8], image: Image<'_>) -> [u8; TAG_BUFFER]
+pub(crate) fn make_token(kind: Kind, key: &[u8], image: Image<'_>) -> [u8; TAG_BUFFER]
     requires { length key.now ≡ key_length kind }
     ensures { result ≡ padded (token_of kind key.now image.entry.bytes.now) }
 {
@@ -72,7 +72,7 @@ fn token_under<K: Keyed>(key: &[u8], image: Image<'_>) -> [u8; TAG_BUFFER]
 }
 
 /// Ends a request with a confirmation, under a key of the right length.
-pub fn check_confirmation(
+pub(crate) fn check_confirmation(
     kind: Kind,
     key: &[u8],
     request: Request,

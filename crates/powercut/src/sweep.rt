@@ -4,8 +4,9 @@ use crate::scene;
 use crate::scene::{MEMORY_LEN, WRITTEN};
 use crate::trial::{Tally, trial};
 use anyhow::bail;
+use chip::{ChipStore, Nor};
 use std::fmt;
-use store::{BLOCK_LEN, Make, MemoryStore, Window};
+use store::{BLOCK_LEN, Make, MemoryStore, Plain, PlainStore, Window};
 
 /// More than any plan counts before the writes are done.
 const LIMIT: usize = 4096;
@@ -27,8 +28,30 @@ impl fmt::Display for View {
     }
 }
 
+/// A kind of memory that is swept, with its store by the name that callers have for it: a name that stands for another
+/// kind's store does not build here.
+pub(crate) trait Swept: Make {
+    /// A new store in a memory.
+    fn store(memory: &mut [u8]) -> MemoryStore<'_, Self>;
+}
+
+impl Swept for Plain {
+    fn store(memory: &mut [u8]) -> PlainStore<'_> {
+        PlainStore::new(memory)
+    }
+}
+
+impl Swept for Nor {
+    fn store(memory: &mut [u8]) -> ChipStore<'_> {
+        ChipStore::new(memory)
+    }
+}
+
 /// Tries longer and longer plans, up to the first that cuts nothing.
-pub fn sweep<M: Make, F: Fn(usize) -> M::Plan>(plan_of: F, view: View) -> anyhow::Result<Tally>
+pub(crate) fn sweep<M: Swept, F: Fn(usize) -> M::Plan>(
+    plan_of: F,
+    view: View,
+) -> anyhow::Result<Tally>
     requires { F.IsAlwaysCallable plan_of }
 {
     let mut tally = Tally::default();
@@ -46,12 +69,12 @@ pub fn sweep<M: Make, F: Fn(usize) -> M::Plan>(plan_of: F, view: View) -> anyhow
     bail!("the plans have no end")
 }
 
-fn try_plan<M: Make>(
+fn try_plan<M: Swept>(
     memory: &mut [u8],
     plan: M::Plan,
     view: View,
 ) -> anyhow::Result<Option<Tally>> {
-    let mut store = MemoryStore::<M>::new(memory);
+    let mut store = M::store(memory);
     store.set_plan(plan);
     match view {
         View::Whole => trial(&mut store, 0),
