@@ -77,7 +77,7 @@ fn write_in<M: Make>(
     Ok(())
 }
 
-// In place: to copy the block out and back would cost more than the write.
+// In place: a block that is copied out and back costs two copies more.
 /// The same over the part of a memory that a block is.
 fn write_part<M: Make>(
     plan: &mut Option<M::Plan>,
