@@ -77,29 +77,25 @@ module _ {Plan : Type 0} (k : Cutting Plan)
     torn_long : (torn : List ℕ) → Tests s b x (Ok tt) → Tears k s.plan (block_at s.memory b) x torn → length torn ≡ 512
     torn_long torn q tears = long s.plan (block_at s.memory b) x torn (length-block s.memory b q.0.1) q.0.0 tears
 
+    -- a write that is cut, as `Storing` tells of it
+    cut : (torn : List ℕ) → Tests s b x (Ok tt) → Tears k s.plan (block_at s.memory b) x torn → t.memory ≡ laid s.memory b torn → t.live ≡ false
+        → t.plan ≡ None → Owed k s b x (Err (arisen Dark b)) t
+    cut torn tests tears left live plan = owed-cut k s b x t torn tests (torn_long torn tests tears) left tears live plan
+
     -- what it answers and leaves is what a store may answer and leave
     pub writing : (r : Result Unit Fault) → Storing k s b x r t → Writing (meaning s) b x r (meaning t)
-    writing (Ok u) q = (ready s.memory s.live b (length x) q.0, laid_over k s b x t x q.0 q.0.0.0 q.1 true q.3)
+    writing (Ok u) q = (owed-done k s b x t x q.0 q.0.0.0 q.1 refl q.2 q.3).written
     writing (Err f) q =
         ⊎_elim
         (λ refusal. inl (refused s.memory s.live b (length x) f refusal.0, ap meaning refusal.1))
-        (λ dark.
-        let torn = dark.2.0 in
-        let n : length torn ≡ 512 = torn_long torn dark.0 dark.2.1 in
-        inr (
-          ready s.memory s.live b (length x) dark.0,
-          dark.1,
-          (torn, n, laid_over k s b x t torn dark.0 n dark.2.2 false dark.3),
-        ))
+        (λ dark. rw dark.1 (cut dark.2.0 dark.0 dark.2.1 dark.2.2 dark.3 dark.4).written)
         q
 
     -- the bytes past the last whole block are never written
     pub same_remainder : (r : Result Unit Fault) → Storing k s b x r t → remainder t.memory ≡ remainder s.memory
-    same_remainder (Ok u) q = ap remainder q.1 ∙ remainder_laid s.memory b q.0.0.1 x q.0.0.0
+    same_remainder (Ok u) q = (owed-done k s b x t x q.0 q.0.0.0 q.1 refl q.2 q.3).remainder
     same_remainder (Err f) q =
         ⊎_elim
         (λ refusal. ap (λ u. remainder u.memory) refusal.1)
-        (λ dark.
-        ap remainder dark.2.2
-        ∙ remainder_laid s.memory b dark.0.0.1 dark.2.0 (torn_long dark.2.0 dark.0 dark.2.1))
+        (λ dark. (cut dark.2.0 dark.0 dark.2.1 dark.2.2 dark.3 dark.4).remainder)
         q
